@@ -11,9 +11,9 @@ use Rattle.odb_atoms.proofs.FinMaps.{get-combine, get-empty, get-entries, same_m
 use Rattle.odb_tables.specs.Change.{Changes, after, all_changed_by, changed_by}
 use Rattle.odb_tables.specs.Database.{Db, Table, table_at}
 use Rattle.odb_chain.specs.Chains.{absorbed, next}
-use Rattle.odb_chain.specs.Kept.{Rows, content_at}
-use Rattle.odb_chain.specs.Represented.Chain.{AreChainsOf, AreRising, Chain, IsKeptOf, IsReadyFor, IsStepped, StandsAsBefore, chain_at, change_at, here, is_moved, live_of, moved_at, places, shown}
-use Rattle.odb_chain.specs.Represented.Places.{IsPast, is_place}
+use Rattle.odb_chain.specs.OldRows.{Rows, content_at}
+use Rattle.odb_chain.specs.Represented.Chain.{AreChainsOf, AreRising, Chain, IsKeptOf, IsReadyFor, IsStepped, StandsAsBefore, chain_at, change_at, here, is_moved, live_of, marked_versions, moved_at, shown}
+use Rattle.odb_chain.specs.Represented.MarkedVersions.{IsPast, is_marked}
 use Rattle.odb_chain.proofs.Contents.{changed_content, len-empty, moved_past, nothing_named}
 use Rattle.odb_chain.proofs.Shown.{all_live}
 use Rattle.odb_chain.proofs.Views.{same_marks}
@@ -35,11 +35,11 @@ change_is ds k x inside at = at ∙ sym (ap (λ o. unwrap_or o finite.empty) (sl
 pub stands_itself : (t : Table) (c : Chain) → StandsAsBefore t c c
 stands_itself t c = (refl, refl, refl, λ p there. refl, λ h. h)
 
-same_places : (t : Table) (a b : Chain) → StandsAsBefore t a b → places b ≡ places a
-same_places t a b f = λ i. f.1 i ++ here (f.0 i) (f.2 i)
+same_marked_versions : (t : Table) (a b : Chain) → StandsAsBefore t a b → marked_versions b ≡ marked_versions a
+same_marked_versions t a b f = λ i. f.1 i ++ here (f.0 i) (f.2 i)
 
 pub stands_on : (t : Table) (a b c : Chain) → StandsAsBefore t a b → StandsAsBefore t b c → StandsAsBefore t a c
-stands_on t a b c f g = (g.0 ∙ f.0, g.1 ∙ f.1, g.2 ∙ f.2, λ p there. g.3 p (ap (is_place p) (same_places t a b f) ∙ there) ∙ f.3 p there, λ h. g.4 (f.4 h))
+stands_on t a b c f g = (g.0 ∙ f.0, g.1 ∙ f.1, g.2 ∙ f.2, λ p there. g.3 p (ap (is_marked p) (same_marked_versions t a b f) ∙ there) ∙ f.3 p there, λ h. g.4 (f.4 h))
 
 -- one table more is ready
 pub ready_more : (ds : List Changes) (cs : List Chain) (k : ℕ) (new : Chain) → k < length cs → IsReadyFor (change_at ds k) new → ((t : ℕ) → t < k → IsReadyFor (change_at ds t) (chain_at cs t))
@@ -124,13 +124,13 @@ length_changed (x ∷ db) (d ∷ ds) e = ap suc (length_changed db ds (omega (ar
 -- ---- one table
 
 module _ (t : Table) (d : Changes) (old mid new : Chain) (kept : IsKeptOf t old) (stands : StandsAsBefore t old mid) (ready : IsReadyFor d mid) (stepped : IsStepped (is_moved d) mid new) where
-  places_are : places new ≡ places old
-  places_are = stepped.1 ∙ same_places t old mid stands
+  marked_versions_are : marked_versions new ≡ marked_versions old
+  marked_versions_are = stepped.1 ∙ same_marked_versions t old mid stands
 
   pub same_live : live_of (changed_by t d) new ≡ live_of t old
   same_live =
-      same_marks t (changed_by t d) old new places_are
-      (λ p there. ap (content_at p (changed_by t d)) stepped.2 ∙ changed_content p t d mid.rows (ready.1 p (ap (is_place p) (same_places t old mid stands) ∙ there)) ∙ stands.3 p there)
+      same_marks t (changed_by t d) old new marked_versions_are
+      (λ p there. ap (content_at p (changed_by t d)) stepped.2 ∙ changed_content p t d mid.rows (ready.1 p (ap (is_marked p) (same_marked_versions t old mid stands) ∙ there)) ∙ stands.3 p there)
 
   pub next_version : new.version ≡ next old.version d
   next_version = stepped.0 ∙ ap (λ v. cond (is_moved d) (v + 1) v) stands.0
@@ -185,7 +185,7 @@ module _ (db : Db) (old mid : List Chain) (h : AreChainsOf db old) (long : lengt
   ready_shown =
       let lives : all_live db mid ≡ all_live db old =
       same_lives db db old mid h.0 refl (long ∙ h.0)
-      (λ t. same_marks (table_at db t) (table_at db t) (chain_at old t) (chain_at mid t) (same_places (table_at db t) (chain_at old t) (chain_at mid t) (stands t)) (stands t).3) in
+      (λ t. same_marks (table_at db t) (table_at db t) (chain_at old t) (chain_at mid t) (same_marked_versions (table_at db t) (chain_at old t) (chain_at mid t) (stands t)) (stands t).3) in
       λ i. record { db = db; versions = same_numbers old mid long (λ t. (stands t).0) i; live = lives i }
 
   -- once the change is made, all marks stand for what they did

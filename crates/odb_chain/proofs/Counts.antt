@@ -10,15 +10,15 @@ use Rattle.odb_atoms.proofs.FinMaps.{entries-from_sorted, get-entries, len-from_
 use Rattle.odb_tables.specs.Change.{Changes}
 use Rattle.odb_tables.specs.Database.{Db, Table, table_at}
 use Rattle.odb_chain.specs.Chains.{Live, Standing}
-use Rattle.odb_chain.specs.Kept.{Rows}
-use Rattle.odb_chain.specs.Represented.Chain.{AllAfter, AreApart, AreChainsOf, AreRising, Chain, chain_at, here, places, shown, stands}
+use Rattle.odb_chain.specs.OldRows.{Rows}
+use Rattle.odb_chain.specs.Represented.Chain.{AllAfter, AreApart, AreChainsOf, AreRising, Chain, chain_at, here, marked_versions, shown, stands}
 use Rattle.odb_chain.specs.Segments.{contents_held, segments_held, segments_of}
 use Rattle.odb_chain.proofs.Numbers.{get-from_entries, same}
-use Rattle.odb_chain.proofs.Places.{Place}
+use Rattle.odb_chain.proofs.MarkedVersions.{MarkedVersion}
 use Rattle.odb_chain.proofs.Shown.{live_shown, version_shown}
-use Rattle.odb_chain.proofs.Views.{places_apart}
+use Rattle.odb_chain.proofs.Views.{versions_apart}
 
--- ---- places in order are the entries of a map
+-- ---- versions in order are the entries of a map
 
 before : (b c : Bool) → b ≡ true → T (is_lt (cond b Less (cond c Equal Greater)))
 before true c e = tt
@@ -29,13 +29,13 @@ joined true b x y = y
 joined false b x y = absurd x
 
 module _ (t : Table) (rows : Rows) where
-  below_stands : (p : ℕ) (ls : List Place) → AllAfter p ls → T (below_all nat_cmp p (map (stands t rows) ls))
+  below_stands : (p : ℕ) (ls : List MarkedVersion) → AllAfter p ls → T (below_all nat_cmp p (map (stands t rows) ls))
   below_stands p [] h = tt
   below_stands p (l ∷ ls) h =
       let low : p < l.0 = h.0 in
       joined (is_lt (nat_cmp p l.0)) (below_all nat_cmp p (map (stands t rows) ls)) (before (nat_lt p l.0) (p == l.0) (grind (arith, nat_tests))) (below_stands p ls h.1)
 
-  sorted_stands : (ls : List Place) → AreApart ls → T (is_sorted nat_cmp (map (stands t rows) ls))
+  sorted_stands : (ls : List MarkedVersion) → AreApart ls → T (is_sorted nat_cmp (map (stands t rows) ls))
   sorted_stands [] h = tt
   sorted_stands (l ∷ ls) h = joined (below_all nat_cmp l.0 (map (stands t rows) ls)) (is_sorted nat_cmp (map (stands t rows) ls)) (below_stands l.0 ls h.0) (sorted_stands ls h.1)
 
@@ -57,28 +57,28 @@ module _ (es : List (ℕ × Standing)) (h : T (is_sorted nat_cmp es)) where
 abbrev begins : ℕ → ℕ × Changes → Bool
 begins v s = nat_lt s.0 v
 
-abbrev is_earlier : ℕ → Place → Bool
+abbrev is_earlier : ℕ → MarkedVersion → Bool
 is_earlier v l = nat_lt l.0 v
 
-one_more : (b : Bool) (s : ℕ × Changes) (ss : List (ℕ × Changes)) (l : Place) (ls : List Place) → length ss ≡ length ls → length (cond b (s ∷ ss) ss) ≡ length (cond b (l ∷ ls) ls)
+one_more : (b : Bool) (s : ℕ × Changes) (ss : List (ℕ × Changes)) (l : MarkedVersion) (ls : List MarkedVersion) → length ss ≡ length ls → length (cond b (s ∷ ss) ss) ≡ length (cond b (l ∷ ls) ls)
 one_more true s ss l ls e = ap suc e
 one_more false s ss l ls e = e
 
-begun : (t x : Table) (rows : Rows) (v : ℕ) (ls : List Place) → length (filter (begins v) (segments_of (map (stands t rows) ls) x)) ≡ length (filter (is_earlier v) ls)
+begun : (t x : Table) (rows : Rows) (v : ℕ) (ls : List MarkedVersion) → length (filter (begins v) (segments_of (map (stands t rows) ls) x)) ≡ length (filter (is_earlier v) ls)
 begun t x rows v [] = refl
 begun t x rows v (l ∷ []) = one_more (nat_lt l.0 v) _ [] l [] refl
 begun t x rows v (l ∷ m ∷ ls) = one_more (nat_lt l.0 v) _ (filter (begins v) (segments_of (map (stands t rows) (m ∷ ls)) x)) l (filter (is_earlier v) (m ∷ ls)) (begun t x rows v (m ∷ ls))
 
--- the places before the version are those that are kept apart from it
-all_earlier : (v n : ℕ) (ls : List Place) → AreRising v ls → filter (is_earlier v) (ls ++ here v n) ≡ ls
+-- the marked versions before that of now are those that are kept apart from it
+all_earlier : (v n : ℕ) (ls : List MarkedVersion) → AreRising v ls → filter (is_earlier v) (ls ++ here v n) ≡ ls
 all_earlier v zero [] h = refl
-all_earlier v (suc n) [] h = let own : nat_lt v v ≡ false = grind (arith, nat_tests) in ap (λ b. cond {A = List Place} b ((v, suc n) ∷ []) []) own
+all_earlier v (suc n) [] h = let own : nat_lt v v ≡ false = grind (arith, nat_tests) in ap (λ b. cond {A = List MarkedVersion} b ((v, suc n) ∷ []) []) own
 all_earlier v n (l ∷ ls) h =
     let low : l.0 < v = h.0 in
     let early : nat_lt l.0 v ≡ true = grind (arith, nat_tests) in
     ap (λ b. cond b (l ∷ filter (is_earlier v) (ls ++ here v n)) (filter (is_earlier v) (ls ++ here v n))) early ∙ ap (λ xs. l ∷ xs) (all_earlier v n ls h.3)
 
-not_more : (xs ys : List Place) → length xs ≤ length (xs ++ ys)
+not_more : (xs ys : List MarkedVersion) → length xs ≤ length (xs ++ ys)
 not_more [] ys = omega arith
 not_more (x ∷ xs) ys = let rest : length xs ≤ length (xs ++ ys) = not_more xs ys in omega (arith, rest)
 
@@ -91,18 +91,18 @@ module _ (db : Db) (cs : List Chain) (t : ℕ) (h : AreChainsOf db cs) where
   abbrev pub table : Table
   table = table_at db t
 
-  sorted_here : T (is_sorted nat_cmp (map (stands table c.rows) (places c)))
-  sorted_here = sorted_stands table c.rows (places c) (places_apart c (h.1 t).0)
+  sorted_here : T (is_sorted nat_cmp (map (stands table c.rows) (marked_versions c)))
+  sorted_here = sorted_stands table c.rows (marked_versions c) (versions_apart c (h.1 t).0)
 
-  pub contents_are : contents_held (shown db cs) t ≡ length (places c)
-  contents_are = ap (λ (l : Live). finite.len l) (live_shown db cs t h.0) ∙ len_is (map (stands table c.rows) (places c)) sorted_here ∙ length-map (places c) (stands table c.rows)
+  pub contents_are : contents_held (shown db cs) t ≡ length (marked_versions c)
+  contents_are = ap (λ (l : Live). finite.len l) (live_shown db cs t h.0) ∙ len_is (map (stands table c.rows) (marked_versions c)) sorted_here ∙ length-map (marked_versions c) (stands table c.rows)
 
   pub segments_are : segments_held (shown db cs) t ≡ length c.live
   segments_are =
       (λ i. length (filter (begins (version_shown db cs t i)) (segments_of (finite.entries_of (live_shown db cs t h.0 i)) table)))
-      ∙ ap (λ es. length (filter (begins c.version) (segments_of es table))) (entries_are (map (stands table c.rows) (places c)) sorted_here)
-      ∙ begun table table c.rows c.version (places c)
+      ∙ ap (λ es. length (filter (begins c.version) (segments_of es table))) (entries_are (map (stands table c.rows) (marked_versions c)) sorted_here)
+      ∙ begun table table c.rows c.version (marked_versions c)
       ∙ ap length (all_earlier c.version c.fresh c.live (h.1 t).0)
 
-  pub few_segments : length c.live ≤ length (places c)
+  pub few_segments : length c.live ≤ length (marked_versions c)
   few_segments = not_more c.live (here c.version c.fresh)

@@ -1,10 +1,10 @@
--- What is kept of one row. What the row is now may be added: that changes nothing. What is kept is so whatever the row becomes. What no place needs may go.
+-- What is kept of one row. What the row is now may be added: that changes nothing. What is kept is so whatever the row becomes. What no version needs may go.
 use Rattle.std.proofs.Common.{◌≡◌, ℕ, ◌+◌, arith, Bool, true, false, cond, if◌then◌else◌, not, ◌||◌, ◌&&◌, nat_le, nat_lt, nat_eq, List, [], ◌∷◌, ◌++◌, Option, refl, sym, ap, ◌∙◌, true≢false}
 use Rattle.std.proofs.lemmas.Bool.Decides.{nat_tests}
 use Rattle.std.specs.List.{dedup_from}
 use Rattle.odb_atoms.specs.Row.{Row}
-use Rattle.odb_chain.specs.Kept.{History, at, reaches}
-use Rattle.odb_chain.specs.Represented.Places.{Past, cleaned, is_between, is_kept, is_label, is_place}
+use Rattle.odb_chain.specs.OldRows.{History, at, reaches}
+use Rattle.odb_chain.specs.Represented.MarkedVersions.{Past, cleaned, is_between, is_kept, is_label, is_marked}
 
 abbrev Old : Type 0
 Old = ℕ × Option Row
@@ -27,7 +27,7 @@ found p r s (x ∷ xs) e = by (nat_le p x.0) e (found p r s xs)
     by true e rest = refl
     by false e rest = rest e
 
--- a place that isn't reached
+-- a version that isn't reached
 pub beyond : (p : ℕ) (r : Option Row) (h : History) → reaches p h ≡ false → at p r h ≡ r
 beyond p r [] e = refl
 beyond p r (x ∷ xs) e = by (nat_le p x.0) e (beyond p r xs)
@@ -36,13 +36,13 @@ beyond p r (x ∷ xs) e = by (nat_le p x.0) e (beyond p r xs)
     by true e rest = absurd (true≢false e)
     by false e rest = rest e
 
--- a place that isn't between two others isn't reached by the later one, where it is after the earlier one
-apart : (a b p : ℕ) (ls : List (ℕ × ℕ)) → is_place p ls ≡ true → is_between ls a b ≡ false → nat_le p a ≡ false → nat_le p b ≡ false
+-- a version that isn't between two others isn't reached by the later one, where it is after the earlier one
+apart : (a b p : ℕ) (ls : List (ℕ × ℕ)) → is_marked p ls ≡ true → is_between ls a b ≡ false → nat_le p a ≡ false → nat_le p b ≡ false
 apart a b p [] there none before = absurd (true≢false (sym there))
 apart a b p (l ∷ ls) there none before = by (nat_eq p l.0) refl (nat_lt a l.0 && nat_le l.0 b) refl there none (apart a b p ls)
   where
-    by : (c : Bool) → nat_eq p l.0 ≡ c → (d : Bool) → (nat_lt a l.0 && nat_le l.0 b) ≡ d → (c || is_place p ls) ≡ true → (d || is_between ls a b) ≡ false
-        → (is_place p ls ≡ true → is_between ls a b ≡ false → nat_le p a ≡ false → nat_le p b ≡ false) → nat_le p b ≡ false
+    by : (c : Bool) → nat_eq p l.0 ≡ c → (d : Bool) → (nat_lt a l.0 && nat_le l.0 b) ≡ d → (c || is_marked p ls) ≡ true → (d || is_between ls a b) ≡ false
+        → (is_marked p ls ≡ true → is_between ls a b ≡ false → nat_le p a ≡ false → nat_le p b ≡ false) → nat_le p b ≡ false
     by c is true in_it there none rest = absurd (true≢false none)
     by true is false out there none rest = grind (arith, nat_tests)
     by false is false out there none rest = rest there none before
@@ -59,7 +59,7 @@ module _ (ls : List (ℕ × ℕ)) where
   skipped true c k x a f = refl
   skipped false c k x a f = ap (λ d. if d then x else a) (sym (f refl))
 
-  needless_from : (p : ℕ) (r : Option Row) (k : Old) (xs : History) → is_place p ls ≡ true → at p r (dedup_from is_needless k xs) ≡ at p r (k ∷ xs)
+  needless_from : (p : ℕ) (r : Option Row) (k : Old) (xs : History) → is_marked p ls ≡ true → at p r (dedup_from is_needless k xs) ≡ at p r (k ∷ xs)
   needless_from p r k [] h = refl
   needless_from p r k (x ∷ xs) h = by (is_needless x k) refl (needless_from p r k xs h) (needless_from p r x xs h)
     where
@@ -68,7 +68,7 @@ module _ (ls : List (ℕ × ℕ)) where
       by true is stays goes = stays ∙ skipped (nat_le p k.0) (nat_le p x.0) k.1 x.1 (at p r xs) (apart k.0 x.0 p ls h (not_true _ is))
       by false is stays goes = ap (λ y. if nat_le p k.0 then k.1 else y) goes
 
-  pub needless : (p : ℕ) (r : Option Row) (h : History) → is_place p ls ≡ true → at p r (cleaned ls h) ≡ at p r h
+  pub needless : (p : ℕ) (r : Option Row) (h : History) → is_marked p ls ≡ true → at p r (cleaned ls h) ≡ at p r h
   needless p r [] there = refl
   needless p r (k ∷ xs) there = needless_from p r k xs there
 
@@ -155,11 +155,11 @@ module _ (n : ℕ) (ls : List (ℕ × ℕ)) (r : Option Row) (h : History) (new 
   pub clean_same : (p : ℕ) → is_kept n ls p ≡ true → at p r (cleaned ls h) ≡ at p r h
   clean_same p kept = by (nat_le n p) refl kept
     where
-      by : (b : Bool) → nat_le n p ≡ b → (b || is_place p ls) ≡ true → at p r (cleaned ls h) ≡ at p r h
+      by : (b : Bool) → nat_le n p ≡ b → (b || is_marked p ls) ≡ true → at p r (cleaned ls h) ≡ at p r h
       by true is e = beyond p r (cleaned ls h) (unreached_after n p (cleaned ls h) is (unreached ls n h new)) ∙ sym (beyond p r h (unreached_after n p h is new))
       by false is e = needless ls p r h e
 
--- ---- up to which places old rows are kept
+-- ---- up to which versions old rows are kept
 
 pub or_left : (a b : Bool) → a ≡ true → (a || b) ≡ true
 or_left true b e = refl

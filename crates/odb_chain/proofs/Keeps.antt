@@ -21,11 +21,11 @@ use Rattle.odb_tables.specs.Represented.TableChange.{AreDistinct}
 use Rattle.odb_tables.proofs.KeyedMaps.{get-from_entries, get-keyed}
 use Rattle.odb_tables.proofs.Leading.{Entry}
 use Rattle.odb_chain.proofs.Histories.{label_pushed, or_left, or_right}
-use Rattle.odb_chain.specs.Represented.Places.{has_label}
+use Rattle.odb_chain.specs.Represented.MarkedVersions.{has_label}
 use Rattle.std.proofs.Common.{nat_eq}
-use Rattle.odb_chain.specs.Kept.{History, Rows, at, is_reached}
+use Rattle.odb_chain.specs.OldRows.{History, Rows, at, is_reached}
 use Rattle.odb_chain.specs.Represented.Chain.{IsOf}
-use Rattle.odb_chain.specs.Represented.Places.{AsBefore, StaysOrGoes}
+use Rattle.odb_chain.specs.Represented.MarkedVersions.{AsBefore, StaysOrGoes}
 use Rattle.odb_chain.proofs.Histories.{neutral, past_pushed}
 
 either_label : (b a c : Bool) → (b ≡ true → (a || c) ≡ true) → (b || c) ≡ true → (a || c) ≡ true

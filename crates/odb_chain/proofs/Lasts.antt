@@ -1,10 +1,10 @@
--- The last place up to which a row is kept tells which places are reached.
+-- The last version up to which a row is kept tells which versions are reached.
 use Rattle.std.proofs.Common.{◌≡◌, ℕ, arith, Bool, true, false, ◌||◌, nat_eq, nat_le, nat_lt, [], ◌∷◌, ◌++◌, Option, refl, sym, ap, ◌∙◌, true≢false}
 use Rattle.std.proofs.lemmas.Bool.Decides.{nat_tests}
 use Rattle.odb_atoms.specs.Row.{Row}
-use Rattle.odb_chain.specs.Kept.{History, reaches}
+use Rattle.odb_chain.specs.OldRows.{History, reaches}
 use Rattle.odb_chain.specs.Represented.Log.{IsLast, passes}
-use Rattle.odb_chain.specs.Represented.Places.{is_label}
+use Rattle.odb_chain.specs.Represented.MarkedVersions.{is_label}
 use Rattle.odb_chain.proofs.Histories.{or_left, or_right}
 
 reached_label : (p q : ℕ) (h : History) → is_label q h ≡ true → nat_le p q ≡ true → reaches p h ≡ true
@@ -77,7 +77,7 @@ label_pushed_here : (n : ℕ) (r : Option Row) (h : History) → is_label n (h +
 label_pushed_here n r [] = let same : nat_eq n n ≡ true = grind (arith, nat_tests) in ap (λ b. b || false) same
 label_pushed_here n r (x ∷ xs) = or_right (nat_eq n x.0) (is_label n (xs ++ (n, r) ∷ [])) (label_pushed_here n r xs)
 
--- whose labels are all below a place, and that place
+-- whose labels are all below a version, and that version
 none_above : (n : ℕ) (r : Option Row) (h : History) → ((q : ℕ) → is_label q h ≡ true → nat_le n q ≡ false) → passes n (h ++ (n, r) ∷ []) ≡ false
 none_above n r [] low = let none : nat_lt n n ≡ false = grind (arith, nat_tests) in ap (λ b. b || false) none
 none_above n r (x ∷ xs) low =

@@ -5,9 +5,9 @@ mod Counts
 mod Histories
 mod Keeps
 mod Lasts
-mod Noted
+mod MarkedVersions
 mod Numbers
-mod Places
+mod Recorded
 mod Shown
 pub mod Undoing
 mod Views

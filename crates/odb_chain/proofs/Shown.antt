@@ -7,13 +7,13 @@ use Rattle.std.specs.Ordering.{eq_by_cmp, nat_cmp}
 use Rattle.odb_atoms.specs.FinMap as finite
 use Rattle.odb_tables.specs.Database.{Db, Table, table_at}
 use Rattle.odb_chain.specs.Chains.{Chains, IsLive, IsNow, Live, Mark, Standing, chains_of, count, live_at, marked, marks_of, one_less, released, standing, version, with_standing}
-use Rattle.odb_chain.specs.Kept.{Rows, content_at}
-use Rattle.odb_chain.specs.Represented.Chain.{AreChainsOf, AreRising, Chain, IsChainOf, IsKeptOf, chain_at, fewer, here, live_of, nothing_kept, places, shown}
-use Rattle.odb_chain.specs.Represented.Places.{is_place}
+use Rattle.odb_chain.specs.OldRows.{Rows, content_at}
+use Rattle.odb_chain.specs.Represented.Chain.{AreChainsOf, AreRising, Chain, IsChainOf, IsKeptOf, chain_at, fewer, here, live_of, marked_versions, nothing_kept, shown}
+use Rattle.odb_chain.specs.Represented.MarkedVersions.{is_marked}
 use Rattle.odb_chain.proofs.Contents.{empty_past, now_content}
 use Rattle.odb_chain.proofs.Numbers.{get-insert, same_number}
-use Rattle.odb_chain.proofs.Places.{before_version, cases}
-use Rattle.odb_chain.proofs.Views.{fewer_marks, found_place, get-live_of, marks_now, more_marks, stand}
+use Rattle.odb_chain.proofs.MarkedVersions.{before_version, cases}
+use Rattle.odb_chain.proofs.Views.{fewer_marks, found_version, get-live_of, marks_now, more_marks, stand}
 
 abbrev pub all_live : Db → List Chain → List Live
 all_live db cs = map (λ e. live_of e.0 e.1) (zip db cs)
@@ -63,7 +63,7 @@ length-set (x ∷ cs) (suc t) c = ap suc (length-set cs t c)
 pub set_chains : (db : Db) (cs : List Chain) (t : ℕ) (c : Chain) → AreChainsOf db cs → IsKeptOf (table_at db t) c → AreChainsOf db (slice_set cs t c)
 set_chains db cs t c h k = (length-set cs t c ∙ h.0, at_each (λ q x. IsKeptOf (table_at db q) x) cs t c k h.1)
 
--- who stands at a place
+-- who stands at a version
 pub chain_is : (cs : List Chain) (t : ℕ) (x : Chain) → t < length cs → x ≡ slice_index_or cs t x → x ≡ chain_at cs t
 chain_is cs t x inside at = at ∙ sym (ap (λ o. unwrap_or o nothing_kept) (slice_get-get_or cs t x inside))
 
@@ -83,8 +83,8 @@ marked_shown db cs t h =
     set_live db cs t (record c { fresh = c.fresh + 1 }) h.0 ∙ ap (slice_set k.live t) (more_marks table c (h.1 t) ∙ (λ i. finite.insert (live i) (at i) (record { content = table; marks = marks_of (finite.get (live i) (at i)) + 1 }))) in
     λ i. record { db = db; versions = set_versions cs t (record c { fresh = c.fresh + 1 }) refl i; live = lives i }
 
-pub released_shown : (db : Db) (cs : List Chain) (t p : ℕ) (new : Chain) → AreChainsOf db cs → new.version ≡ (chain_at cs t).version → places new ≡ fewer p (places (chain_at cs t))
-    → ((q : ℕ) → is_place q (places new) ≡ true → content_at q (table_at db t) new.rows ≡ content_at q (table_at db t) (chain_at cs t).rows) → shown db (slice_set cs t new) ≡ released t p (shown db cs)
+pub released_shown : (db : Db) (cs : List Chain) (t p : ℕ) (new : Chain) → AreChainsOf db cs → new.version ≡ (chain_at cs t).version → marked_versions new ≡ fewer p (marked_versions (chain_at cs t))
+    → ((q : ℕ) → is_marked q (marked_versions new) ≡ true → content_at q (table_at db t) new.rows ≡ content_at q (table_at db t) (chain_at cs t).rows) → shown db (slice_set cs t new) ≡ released t p (shown db cs)
 released_shown db cs t p new h same is contents =
     let k : Chains = shown db cs in
     let c : Chain = chain_at cs t in
@@ -100,33 +100,33 @@ stand_is : (t : Table) (rows : Rows) (p : ℕ) (o : Option ℕ) (x : Standing) (
 stand_is t rows p None x G e f = absurd (none-some x e)
 stand_is t rows p (Some n) x G e f = f n refl (same_Some (stand t rows p n) x e)
 
--- where somebody stands at a place, it is one of the chain's, with the content that it had
+-- where somebody stands at a version, it is one of the chain's, with the content that it had
 pub stands_there : (db : Db) (cs : List Chain) (t p : ℕ) (x : Standing) → AreChainsOf db cs → standing (shown db cs) t p ≡ Some x
-    → (is_place p (places (chain_at cs t)) ≡ true) × (content_at p (table_at db t) (chain_at cs t).rows ≡ x.content)
+    → (is_marked p (marked_versions (chain_at cs t)) ≡ true) × (content_at p (table_at db t) (chain_at cs t).rows ≡ x.content)
 stands_there db cs t p x h there =
     let c : Chain = chain_at cs t in
     let table : Table = table_at db t in
-    stand_is table c.rows p (find nat_cmp p (places c)) x _ (sym (get-live_of table c p) ∙ ap (λ (l : Live). finite.get l p) (sym (live_shown db cs t h.0)) ∙ there)
-    (λ n found is. (found_place p n (places c) found, ap (λ (y : Standing). y.content) is))
+    stand_is table c.rows p (find nat_cmp p (marked_versions c)) x _ (sym (get-live_of table c p) ∙ ap (λ (l : Live). finite.get l p) (sym (live_shown db cs t h.0)) ∙ there)
+    (λ n found is. (found_version p n (marked_versions c) found, ap (λ (y : Standing). y.content) is))
 
-inside_if : (cs : List Chain) (t p : ℕ) → is_place p (places (chain_at cs t)) ≡ true → t < length cs
+inside_if : (cs : List Chain) (t p : ℕ) → is_marked p (marked_versions (chain_at cs t)) ≡ true → t < length cs
 inside_if [] t p e = absurd (true≢false (sym e))
 inside_if (c ∷ cs) zero p e = omega arith
 inside_if (c ∷ cs) (suc t) p e = let rest : t < length cs = inside_if cs t p e in omega (arith, rest)
 
 pub live_inside : (db : Db) (cs : List Chain) (m : Mark) → AreChainsOf db cs → IsLive (shown db cs) m → m.table < length cs
-live_inside db cs m h live = inside_if cs m.table m.place (stands_there db cs m.table m.place _ h live.1).0
+live_inside db cs m h live = inside_if cs m.table m.version (stands_there db cs m.table m.version _ h live.1).0
 
-pub live_place : (db : Db) (cs : List Chain) (m : Mark) → AreChainsOf db cs → IsLive (shown db cs) m → is_place m.place (places (chain_at cs m.table)) ≡ true
-live_place db cs m h live = (stands_there db cs m.table m.place _ h live.1).0
+pub live_version : (db : Db) (cs : List Chain) (m : Mark) → AreChainsOf db cs → IsLive (shown db cs) m → is_marked m.version (marked_versions (chain_at cs m.table)) ≡ true
+live_version db cs m h live = (stands_there db cs m.table m.version _ h live.1).0
 
-pub live_content : (db : Db) (cs : List Chain) (m : Mark) → AreChainsOf db cs → IsLive (shown db cs) m → content_at m.place (table_at db m.table) (chain_at cs m.table).rows ≡ m.content
-live_content db cs m h live = (stands_there db cs m.table m.place _ h live.1).1
+pub live_content : (db : Db) (cs : List Chain) (m : Mark) → AreChainsOf db cs → IsLive (shown db cs) m → content_at m.version (table_at db m.table) (chain_at cs m.table).rows ≡ m.content
+live_content db cs m h live = (stands_there db cs m.table m.version _ h live.1).1
 
 pub is_now : (db : Db) (cs : List Chain) → AreChainsOf db cs → IsNow (shown db cs)
 is_now db cs h t p x there =
     let c : Chain = chain_at cs t in
-    let facts : (is_place p (places c) ≡ true) × (content_at p (table_at db t) c.rows ≡ x.content) = stands_there db cs t p x h there in
+    let facts : (is_marked p (marked_versions c) ≡ true) × (content_at p (table_at db t) c.rows ≡ x.content) = stands_there db cs t p x h there in
     let v : c.version ≡ version (shown db cs) t = sym (version_shown db cs t) in (
       subst (λ n. p ≤ n) v (cases c.version p c.fresh c.live (p ≤ c.version) facts.0 (λ e. let low : nat_lt p c.version ≡ true = before_version c.version p c.live (h.1 t).0 e in grind (arith, nat_tests)) (λ e _. omega (arith, e))),
       λ e. let at : nat_le c.version p ≡ true = grind (arith, nat_tests) in sym facts.1 ∙ now_content c.version p (table_at db t) c.rows at (h.1 t).1,
@@ -139,7 +139,7 @@ live_set (x ∷ ls) zero l low = refl
 live_set (x ∷ ls) (suc t) l low = live_set ls t l (omega (arith, low))
 
 pub still_live : (k : Chains) (m : Mark) → IsNow k → m.table < length k.live → IsLive k m → IsLive (marked m.table k) m
-still_live k m now low live = by (eq_by_cmp nat_cmp m.place (version k m.table)) refl
+still_live k m now low live = by (eq_by_cmp nat_cmp m.version (version k m.table)) refl
   where
     n : ℕ
     n = version k m.table
@@ -147,12 +147,12 @@ still_live k m now low live = by (eq_by_cmp nat_cmp m.place (version k m.table))
     new : Standing
     new = record { content = table_at k.db m.table; marks = marks_of (standing k m.table n) + 1 }
 
-    got : standing (marked m.table k) m.table m.place ≡ cond (eq_by_cmp nat_cmp m.place n) (Some new) (standing k m.table m.place)
-    got = ap (λ (l : Live). finite.get l m.place) (live_set k.live m.table (finite.insert (live_at k m.table) n new) low) ∙ get-insert (live_at k m.table) n new m.place
+    got : standing (marked m.table k) m.table m.version ≡ cond (eq_by_cmp nat_cmp m.version n) (Some new) (standing k m.table m.version)
+    got = ap (λ (l : Live). finite.get l m.version) (live_set k.live m.table (finite.insert (live_at k m.table) n new) low) ∙ get-insert (live_at k m.table) n new m.version
 
-    by : (b : Bool) → eq_by_cmp nat_cmp m.place n ≡ b → IsLive (marked m.table k) m
-    by true is = (new.marks, got ∙ ap (λ b. cond b (Some new) (standing k m.table m.place)) is ∙ (λ i. let s : Option Standing = Some (record { content = sym ((now m.table m.place _ live.1).1 (same_number m.place n is)) i; marks = new.marks }) in s))
-    by false is = (live.0, got ∙ ap (λ b. cond b (Some new) (standing k m.table m.place)) is ∙ live.1)
+    by : (b : Bool) → eq_by_cmp nat_cmp m.version n ≡ b → IsLive (marked m.table k) m
+    by true is = (new.marks, got ∙ ap (λ b. cond b (Some new) (standing k m.table m.version)) is ∙ (λ i. let s : Option Standing = Some (record { content = sym ((now m.table m.version _ live.1).1 (same_number m.version n is)) i; marks = new.marks }) in s))
+    by false is = (live.0, got ∙ ap (λ b. cond b (Some new) (standing k m.table m.version)) is ∙ live.1)
 
 -- ---- how many marks stand for what a table is now, and how many tables there are
 

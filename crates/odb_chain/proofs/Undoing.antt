@@ -23,7 +23,7 @@ use Rattle.odb_chain.specs.Segments.{SegmentsJoin, UndoneToMarks, joined_row, se
 
 -- ---- undoing
 
--- places that come after this one
+-- versions that come after this one
 less : (b c : Bool) → T (is_lt (cond b Less (cond c Equal Greater))) → b ≡ true
 less true c h = refl
 less false true h = absurd h
@@ -47,7 +47,7 @@ whole p e (f ∷ es) t late sorted =
     ∙ ap (λ x. undone x (change e.1.content f.1.content)) (whole p f es t (grind (arith, nat_tests)) parts.1)
     ∙ undone-change e.1.content f.1.content
 
--- a place that is found comes after those before
+-- a version that is found comes after those before
 found_after : (k p : ℕ) (es : List (ℕ × Standing)) (x : Standing) → T (below_all nat_cmp k es) → find nat_cmp p es ≡ Some x → nat_lt k p ≡ true
 found_after k p [] x below there = absurd (none-some x there)
 found_after k p (f ∷ es) x below there = by (eq_by_cmp nat_cmp p f.0) refl there (found_after k p es x (halves _ _ below).1)

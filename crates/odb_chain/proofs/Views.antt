@@ -1,4 +1,4 @@
--- What the marks of one table stand for: by each place, with one mark more or less, and with a change made.
+-- What the marks of one table stand for: by each version, with one mark more or less, and with a change made.
 use Rattle.std.proofs.Common.{◌≡◌, ℕ, zero, suc, ◌+◌, ◌-◌, arith, Bool, true, false, cond, ◌||◌, nat_eq, nat_le, nat_lt, List, [], ◌∷◌, ◌++◌, map, Option, Some, None, option_and_then, option_map, refl, sym, ap, subst, ◌∙◌, true≢false}
 use Rattle.std.proofs.lemmas.Bool.Decides.{nat_tests}
 use Rattle.std.proofs.lemmas.Option.{none-some}
@@ -7,19 +7,19 @@ use Rattle.std.specs.Ordering.{eq_by_cmp, nat_cmp}
 use Rattle.odb_atoms.specs.FinMap as finite
 use Rattle.odb_tables.specs.Database.{Table}
 use Rattle.odb_chain.specs.Chains.{Live, Standing, marks_of, one_less, with_standing}
-use Rattle.odb_chain.specs.Kept.{Rows, content_at}
-use Rattle.odb_chain.specs.Represented.Chain.{AreApart, AllAfter, AreRising, Chain, IsKeptOf, fewer, here, live_of, places, stands}
-use Rattle.odb_chain.specs.Represented.Places.{is_place}
+use Rattle.odb_chain.specs.OldRows.{Rows, content_at}
+use Rattle.odb_chain.specs.Represented.Chain.{AreApart, AllAfter, AreRising, Chain, IsKeptOf, fewer, here, live_of, marked_versions, stands}
+use Rattle.odb_chain.specs.Represented.MarkedVersions.{is_marked}
 use Rattle.odb_chain.proofs.Contents.{now_content}
 use Rattle.odb_chain.proofs.Numbers.{get-from_entries, get-insert, get-remove, same, same_number, same_test}
-use Rattle.odb_chain.proofs.Places.{Place, after_place, before_version, rising_later, rising_pushed}
+use Rattle.odb_chain.proofs.MarkedVersions.{MarkedVersion, after_version, before_version, rising_later, rising_pushed}
 
 abbrev pub stand : Table → Rows → ℕ → ℕ → Standing
 stand t rows p n = record { content = content_at p t rows; marks = n }
 
--- ---- places that are found
+-- ---- versions that are found
 
-find-stands : (t : Table) (rows : Rows) (p : ℕ) (ls : List Place) → find nat_cmp p (map (stands t rows) ls) ≡ option_map (stand t rows p) (find nat_cmp p ls)
+find-stands : (t : Table) (rows : Rows) (p : ℕ) (ls : List MarkedVersion) → find nat_cmp p (map (stands t rows) ls) ≡ option_map (stand t rows p) (find nat_cmp p ls)
 find-stands t rows p [] = refl
 find-stands t rows p (l ∷ ls) = by (eq_by_cmp nat_cmp p l.0) refl (find-stands t rows p ls)
   where
@@ -28,25 +28,25 @@ find-stands t rows p (l ∷ ls) = by (eq_by_cmp nat_cmp p l.0) refl (find-stands
     by true is rest = ap (λ q. Some (stand t rows q l.1)) (sym (same_number p l.0 is))
     by false is rest = rest
 
-pub get-live_of : (t : Table) (c : Chain) (p : ℕ) → finite.get (live_of t c) p ≡ option_map (stand t c.rows p) (find nat_cmp p (places c))
-get-live_of t c p = get-from_entries (map (stands t c.rows) (places c)) p ∙ find-stands t c.rows p (places c)
+pub get-live_of : (t : Table) (c : Chain) (p : ℕ) → finite.get (live_of t c) p ≡ option_map (stand t c.rows p) (find nat_cmp p (marked_versions c))
+get-live_of t c p = get-from_entries (map (stands t c.rows) (marked_versions c)) p ∙ find-stands t c.rows p (marked_versions c)
 
-pub found_place : (p n : ℕ) (ls : List Place) → find nat_cmp p ls ≡ Some n → is_place p ls ≡ true
-found_place p n [] e = absurd (none-some n e)
-found_place p n (l ∷ ls) e = by (eq_by_cmp nat_cmp p l.0) refl e (found_place p n ls)
+pub found_version : (p n : ℕ) (ls : List MarkedVersion) → find nat_cmp p ls ≡ Some n → is_marked p ls ≡ true
+found_version p n [] e = absurd (none-some n e)
+found_version p n (l ∷ ls) e = by (eq_by_cmp nat_cmp p l.0) refl e (found_version p n ls)
   where
-    by : (b : Bool) → eq_by_cmp nat_cmp p l.0 ≡ b → cond b (Some l.1) (find nat_cmp p ls) ≡ Some n → (find nat_cmp p ls ≡ Some n → is_place p ls ≡ true) → (nat_eq p l.0 || is_place p ls) ≡ true
-    by true is e rest = ap (λ b. b || is_place p ls) (sym (same_test p l.0) ∙ is)
-    by false is e rest = ap (λ b. b || is_place p ls) (sym (same_test p l.0) ∙ is) ∙ rest e
+    by : (b : Bool) → eq_by_cmp nat_cmp p l.0 ≡ b → cond b (Some l.1) (find nat_cmp p ls) ≡ Some n → (find nat_cmp p ls ≡ Some n → is_marked p ls ≡ true) → (nat_eq p l.0 || is_marked p ls) ≡ true
+    by true is e rest = ap (λ b. b || is_marked p ls) (sym (same_test p l.0) ∙ is)
+    by false is e rest = ap (λ b. b || is_marked p ls) (sym (same_test p l.0) ∙ is) ∙ rest e
 
-not_place : (p : ℕ) (ls : List Place) → is_place p ls ≡ false → find nat_cmp p ls ≡ None
-not_place p ls e = by (find nat_cmp p ls) refl
+not_version : (p : ℕ) (ls : List MarkedVersion) → is_marked p ls ≡ false → find nat_cmp p ls ≡ None
+not_version p ls e = by (find nat_cmp p ls) refl
   where
     by : (o : Option ℕ) → find nat_cmp p ls ≡ o → o ≡ None
     by None is = refl
-    by (Some n) is = absurd (true≢false (sym (found_place p n ls is) ∙ e))
+    by (Some n) is = absurd (true≢false (sym (found_version p n ls is) ∙ e))
 
-find-++ : (p : ℕ) (xs ys : List Place) → find nat_cmp p xs ≡ None → find nat_cmp p (xs ++ ys) ≡ find nat_cmp p ys
+find-++ : (p : ℕ) (xs ys : List MarkedVersion) → find nat_cmp p xs ≡ None → find nat_cmp p (xs ++ ys) ≡ find nat_cmp p ys
 find-++ p [] ys e = refl
 find-++ p (x ∷ xs) ys e = by (eq_by_cmp nat_cmp p x.0) e (find-++ p xs ys)
   where
@@ -54,7 +54,7 @@ find-++ p (x ∷ xs) ys e = by (eq_by_cmp nat_cmp p x.0) e (find-++ p xs ys)
     by true e rest = absurd (none-some x.1 (sym e))
     by false e rest = rest e
 
-find-other : (p : ℕ) (xs : List Place) (v n m : ℕ) → eq_by_cmp nat_cmp p v ≡ false → find nat_cmp p (xs ++ here v n) ≡ find nat_cmp p (xs ++ here v m)
+find-other : (p : ℕ) (xs : List MarkedVersion) (v n m : ℕ) → eq_by_cmp nat_cmp p v ≡ false → find nat_cmp p (xs ++ here v n) ≡ find nat_cmp p (xs ++ here v m)
 find-other p [] v n m other = nowhere n ∙ sym (nowhere m)
   where
     nowhere : (k : ℕ) → find nat_cmp p (here v k) ≡ None
@@ -64,10 +64,10 @@ find-other p (x ∷ xs) v n m other = ap (cond (eq_by_cmp nat_cmp p x.0) (Some x
 
 -- ---- one mark more
 
-version_not_before : (v : ℕ) (ls : List Place) → AreRising v ls → find nat_cmp v ls ≡ None
-version_not_before v ls h = not_place v ls (by (is_place v ls) refl)
+version_not_before : (v : ℕ) (ls : List MarkedVersion) → AreRising v ls → find nat_cmp v ls ≡ None
+version_not_before v ls h = not_version v ls (by (is_marked v ls) refl)
   where
-    by : (b : Bool) → is_place v ls ≡ b → b ≡ false
+    by : (b : Bool) → is_marked v ls ≡ b → b ≡ false
     by true is = let low : nat_lt v v ≡ true = before_version v v ls h is in absurd (grind (arith, nat_tests))
     by false is = refl
 
@@ -116,14 +116,14 @@ more_marks t c h =
 abbrev pub less : ℕ → Option ℕ
 less n = cond (nat_le n 1) None (Some (n - 1))
 
-pub apart : (v : ℕ) (ls : List Place) → AreRising v ls → AreApart ls
+pub apart : (v : ℕ) (ls : List MarkedVersion) → AreRising v ls → AreApart ls
 apart v [] h = tt
 apart v (l ∷ ls) h = (h.2, apart v ls h.3)
 
-pub places_apart : (c : Chain) → AreRising c.version c.live → AreApart (places c)
-places_apart c h = apart (c.version + 1) (c.live ++ here c.version c.fresh) (by c.fresh)
+pub versions_apart : (c : Chain) → AreRising c.version c.live → AreApart (marked_versions c)
+versions_apart c h = apart (c.version + 1) (c.live ++ here c.version c.fresh) (by c.fresh)
   where
-    append_nil : (ls : List Place) → ls ++ [] ≡ ls
+    append_nil : (ls : List MarkedVersion) → ls ++ [] ≡ ls
     append_nil [] = refl
     append_nil (l ∷ ls) = ap (λ xs. l ∷ xs) (append_nil ls)
 
@@ -131,14 +131,14 @@ places_apart c h = apart (c.version + 1) (c.live ++ here c.version c.fresh) (by 
     by zero = subst (AreRising (c.version + 1)) (sym (append_nil c.live)) (rising_later c.version c.live h)
     by (suc n) = rising_pushed c.version (suc n) c.live (omega arith) h
 
-none_after : (p : ℕ) (ls : List Place) → AllAfter p ls → find nat_cmp p ls ≡ None
-none_after p ls h = not_place p ls (by (is_place p ls) refl)
+none_after : (p : ℕ) (ls : List MarkedVersion) → AllAfter p ls → find nat_cmp p ls ≡ None
+none_after p ls h = not_version p ls (by (is_marked p ls) refl)
   where
-    by : (b : Bool) → is_place p ls ≡ b → b ≡ false
-    by true is = let low : nat_lt p p ≡ true = after_place p p ls h is in absurd (grind (arith, nat_tests))
+    by : (b : Bool) → is_marked p ls ≡ b → b ≡ false
+    by true is = let low : nat_lt p p ≡ true = after_version p p ls h is in absurd (grind (arith, nat_tests))
     by false is = refl
 
-find-fewer : (p q : ℕ) (ls : List Place) → AreApart ls → find nat_cmp q (fewer p ls) ≡ cond (eq_by_cmp nat_cmp q p) (option_and_then less (find nat_cmp p ls)) (find nat_cmp q ls)
+find-fewer : (p q : ℕ) (ls : List MarkedVersion) → AreApart ls → find nat_cmp q (fewer p ls) ≡ cond (eq_by_cmp nat_cmp q p) (option_and_then less (find nat_cmp p ls)) (find nat_cmp q ls)
 find-fewer p q [] h = by (eq_by_cmp nat_cmp q p)
   where
     by : (b : Bool) → None ≡ (let o : Option ℕ = cond b None None in o)
@@ -187,32 +187,32 @@ same_stand : (t : Table) (old new : Rows) (p : ℕ) (o : Option ℕ) → ((n : �
 same_stand t old new p None f = refl
 same_stand t old new p (Some n) f = ap (λ x. let s : Option Standing = Some (record { content = x; marks = n }) in s) (f n refl)
 
-pub fewer_marks : (t : Table) (p : ℕ) (old new : Chain) → AreRising old.version old.live → places new ≡ fewer p (places old)
-    → ((q : ℕ) → is_place q (places new) ≡ true → content_at q t new.rows ≡ content_at q t old.rows)
+pub fewer_marks : (t : Table) (p : ℕ) (old new : Chain) → AreRising old.version old.live → marked_versions new ≡ fewer p (marked_versions old)
+    → ((q : ℕ) → is_marked q (marked_versions new) ≡ true → content_at q t new.rows ≡ content_at q t old.rows)
     → live_of t new ≡ with_standing (live_of t old) p (option_and_then one_less (finite.get (live_of t old) p))
 fewer_marks t p old new h is contents =
     same _ _
-    (λ q. get-live_of t new q ∙ same_stand t old.rows new.rows q (find nat_cmp q (places new)) (λ n e. contents q (found_place q n (places new) e))
-    ∙ ap (option_map (stand t old.rows q)) (ap (find nat_cmp q) is ∙ find-fewer p q (places old) (places_apart old h))
+    (λ q. get-live_of t new q ∙ same_stand t old.rows new.rows q (find nat_cmp q (marked_versions new)) (λ n e. contents q (found_version q n (marked_versions new) e))
+    ∙ ap (option_map (stand t old.rows q)) (ap (find nat_cmp q) is ∙ find-fewer p q (marked_versions old) (versions_apart old h))
     ∙ by q (eq_by_cmp nat_cmp q p) refl
     ∙ sym (get-with_standing (live_of t old) p (option_and_then one_less (finite.get (live_of t old) p)) q))
   where
-    by : (q : ℕ) (b : Bool) → eq_by_cmp nat_cmp q p ≡ b → option_map (stand t old.rows q) (cond b (option_and_then less (find nat_cmp p (places old))) (find nat_cmp q (places old)))
+    by : (q : ℕ) (b : Bool) → eq_by_cmp nat_cmp q p ≡ b → option_map (stand t old.rows q) (cond b (option_and_then less (find nat_cmp p (marked_versions old))) (find nat_cmp q (marked_versions old)))
         ≡ cond b (option_and_then one_less (finite.get (live_of t old) p)) (finite.get (live_of t old) q)
-    by q true is = ap (λ x. option_map (stand t old.rows x) (option_and_then less (find nat_cmp p (places old)))) (same_number q p is) ∙ less_stands t old.rows p (find nat_cmp p (places old)) ∙ ap (option_and_then one_less) (sym (get-live_of t old p))
+    by q true is = ap (λ x. option_map (stand t old.rows x) (option_and_then less (find nat_cmp p (marked_versions old)))) (same_number q p is) ∙ less_stands t old.rows p (find nat_cmp p (marked_versions old)) ∙ ap (option_and_then one_less) (sym (get-live_of t old p))
     by q false is = sym (get-live_of t old q)
 
 -- ---- the same marks
 
-same_list : (t s : Table) (old new : Rows) (ls : List Place) → ((p : ℕ) → is_place p ls ≡ true → content_at p s new ≡ content_at p t old) → map (stands s new) ls ≡ map (stands t old) ls
+same_list : (t s : Table) (old new : Rows) (ls : List MarkedVersion) → ((p : ℕ) → is_marked p ls ≡ true → content_at p s new ≡ content_at p t old) → map (stands s new) ls ≡ map (stands t old) ls
 same_list t s old new [] f = refl
 same_list t s old new (l ∷ ls) f =
     let own : nat_eq l.0 l.0 ≡ true = grind (arith, nat_tests) in
-    λ i. (l.0, record { content = f l.0 (ap (λ b. b || is_place l.0 ls) own) i; marks = l.1 }) ∷ same_list t s old new ls (λ p there. f p (by (nat_eq p l.0) p there)) i
+    λ i. (l.0, record { content = f l.0 (ap (λ b. b || is_marked l.0 ls) own) i; marks = l.1 }) ∷ same_list t s old new ls (λ p there. f p (by (nat_eq p l.0) p there)) i
   where
-    by : (b : Bool) (p : ℕ) → is_place p ls ≡ true → (b || is_place p ls) ≡ true
+    by : (b : Bool) (p : ℕ) → is_marked p ls ≡ true → (b || is_marked p ls) ≡ true
     by true p there = refl
     by false p there = there
 
-pub same_marks : (t s : Table) (old new : Chain) → places new ≡ places old → ((p : ℕ) → is_place p (places old) ≡ true → content_at p s new.rows ≡ content_at p t old.rows) → live_of s new ≡ live_of t old
-same_marks t s old new is f = ap (λ ls. finite.from_entries {R = nat_cmp} (map (stands s new.rows) ls)) is ∙ ap (finite.from_entries {R = nat_cmp}) (same_list t s old.rows new.rows (places old) f)
+pub same_marks : (t s : Table) (old new : Chain) → marked_versions new ≡ marked_versions old → ((p : ℕ) → is_marked p (marked_versions old) ≡ true → content_at p s new.rows ≡ content_at p t old.rows) → live_of s new ≡ live_of t old
+same_marks t s old new is f = ap (λ ls. finite.from_entries {R = nat_cmp} (map (stands s new.rows) ls)) is ∙ ap (finite.from_entries {R = nat_cmp}) (same_list t s old.rows new.rows (marked_versions old) f)

@@ -10,20 +10,20 @@ pub record Standing : Type 0 where
   pub content : Table
   pub marks : ℕ
 
--- by their places, which are numbers of changes that the table had
+-- by the versions of the table, each of them the number of changes that it had
 abbrev pub Live : Type 0
 Live = map.FinMap nat_cmp Standing
 
--- of each table how many changes it had, and what is kept
+-- of each table its version, which is how many changes it had, and what is kept
 pub record Chains : Type 0 where
   pub db : Db
   pub versions : List ℕ
   pub live : List Live
 
--- a mark stands for the content that its table had at its place
+-- a mark stands for the content that its table had at the mark's version of it
 pub record Mark : Type 0 where
   pub table : ℕ
-  pub place : ℕ
+  pub version : ℕ
   pub content : Table
 
 abbrev pub version : Chains → ℕ → ℕ
@@ -39,15 +39,15 @@ abbrev pub marks_of : Option Standing → ℕ
 marks_of None = 0
 marks_of (Some x) = x.marks
 
--- how many marks stand at a place
+-- how many marks stand at a version
 abbrev pub count : Chains → ℕ → ℕ → ℕ
 count k t p = marks_of (standing k t p)
 
 -- the content for which the mark stands is kept
 abbrev pub IsLive : Chains → Mark → Type 0
-IsLive k m = (n : ℕ) × (standing k m.table m.place ≡ Some (record { content = m.content; marks = n }))
+IsLive k m = (n : ℕ) × (standing k m.table m.version ≡ Some (record { content = m.content; marks = n }))
 
--- no place is later than now, and what is kept of now is what the table is now
+-- no version is later than now, and what is kept of now is what the table is now
 abbrev pub IsNow : Chains → Type 0
 IsNow k = (t p : ℕ) (x : Standing) → standing k t p ≡ Some x → (p ≤ version k t) × (p ≡ version k t → x.content ≡ table_at k.db t)
 
@@ -59,7 +59,7 @@ chains_of db = record { db = db; versions = map_list (λ t. 0) db; live = map_li
 
 -- a mark for what the table is now
 abbrev pub mark_of : Chains → ℕ → Mark
-mark_of k t = record { table = t; place = version k t; content = table_at k.db t }
+mark_of k t = record { table = t; version = version k t; content = table_at k.db t }
 
 -- with one mark more for what the table is now
 abbrev pub marked : ℕ → Chains → Chains
@@ -72,7 +72,7 @@ abbrev pub with_standing : Live → ℕ → Option Standing → Live
 with_standing l p None = map.remove l p
 with_standing l p (Some x) = map.insert l p x
 
--- with one mark less at a place, which goes with its last one
+-- with one mark less at a version, which goes with its last one
 abbrev pub released : ℕ → ℕ → Chains → Chains
 released t p k = record k { live = slice_set k.live t (with_standing (live_at k t) p (option_and_then one_less (standing k t p))) }
 

@@ -1,5 +1,5 @@
 pub mod Chains
-pub mod Kept
 pub mod Marks
+pub mod OldRows
 pub mod Represented
 pub mod Segments

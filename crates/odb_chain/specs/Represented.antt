@@ -1,4 +1,4 @@
 pub mod Chain
 pub mod Codes
 pub mod Log
-pub mod Places
+pub mod MarkedVersions

@@ -6,7 +6,7 @@ use Rattle.odb_tables.specs.Change.{Changes, change, changed_row, undone}
 use Rattle.odb_tables.specs.Database.{Table, table_at}
 use Rattle.odb_chain.specs.Chains.{Chains, Standing, live_at, standing, version}
 
--- what comes after each place up to the next one, or up to now, where the table is t now
+-- what comes after each version that is kept up to the next one, or up to now, where the table is t now
 abbrev pub segments_of : List (ℕ × Standing) → Table → List (ℕ × Changes)
 segments_of [] t = []
 segments_of (e ∷ []) t = (e.0, change e.1.content t) ∷ []
@@ -23,7 +23,7 @@ segments_held k t = length (filter (λ s. nat_lt s.0 (version k t)) (segments k 
 abbrev pub contents_held : Chains → ℕ → ℕ
 contents_held k t = map.len (live_at k t)
 
--- a content with the segments from a place on undone, the last one first
+-- a content with the segments from a version on undone, the last one first
 abbrev pub undone_to : ℕ → List (ℕ × Changes) → Table → Table
 undone_to p [] t = t
 undone_to p (s ∷ ss) t = cond (nat_lt s.0 p) (undone_to p ss t) (undone (undone_to p ss t) s.1)

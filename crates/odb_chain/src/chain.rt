@@ -1,28 +1,28 @@
-//! What is kept of one table.
+//! The versions of one table that have marks, and its old rows.
 ghost use Rattle.std.specs.Prelude.{◌≡◌, ◌||◌, ℕ, ◌+◌, ◌-◌, ◌^◌, ◌<◌, [], ◌∷◌, true, length, nat_eq, nat_le, slice_get, option_map, Some, IfNone, IfOk, IfSome, OnOk};
 ghost use Rattle.std.specs.List.{position};
 ghost use Rattle.odb_atoms.specs.FinMap as finite;
 ghost use Rattle.odb_atoms.specs.Uuid as model_uuid;
-ghost use Rattle.odb_chain.specs.Kept.{content_at};
-ghost use Rattle.odb_chain.specs.Represented.Chain.{AreRising, HasForgotten, IsChainOf, IsForgotten, IsOf, IsReadyFor, StandsAsBefore, earliest, fewer, here, is_roomy, nothing_kept, places};
-ghost use Rattle.odb_chain.specs.Represented.Places.{has_label, is_kept, is_place};
+ghost use Rattle.odb_chain.specs.OldRows.{content_at};
+ghost use Rattle.odb_chain.specs.Represented.Chain.{AreRising, HasForgotten, IsChainOf, IsForgotten, IsOf, IsReadyFor, StandsAsBefore, earliest, fewer, here, is_roomy, marked_versions, nothing_kept};
+ghost use Rattle.odb_chain.specs.Represented.MarkedVersions.{has_label, is_kept, is_marked};
 ghost use Rattle.odb_tables.specs.Change.{change};
 ghost use Rattle.odb_tables.specs.Database as model_tables;
 
-use crate::kept::Kept;
-use crate::live::{Live, Places};
+use crate::marked_versions::{MarkedVersion, MarkedVersions};
+use crate::old_rows::OldRows;
 use odb_tables::{Table, TableChange};
 use std::alloc::{AllocError, Global};
 use std::hash::RandomState;
 use std::marker::Model;
 
-/// How many changes the table had, which places before that have marks, how many marks stand for what the
-/// table is now, and what rows were.
+/// How many changes the table had, which is its version, which versions before that have marks, how many marks
+/// stand for what the table is now, and what rows were.
 pub(crate) struct Chain {
     version: u64,
-    live: Vec<Live>,
+    live: Vec<MarkedVersion>,
     fresh: usize,
-    kept: Kept,
+    old_rows: OldRows,
 }
 
 impl Model for Chain {
@@ -39,8 +39,8 @@ impl Model for Chain {
       version = c.version;
       live = c.live.items;
       fresh = c.fresh;
-      rows = c.kept.rows;
-      notes = c.kept.notes;
+      rows = c.old_rows.rows;
+      log = c.old_rows.log;
       room = nat_lt (vec_len c.live) (vec_capacity c.live);
     } };
 
@@ -48,7 +48,7 @@ impl Model for Chain {
 }
 
 impl Chain {
-    /// Makes a chain of which no change was made, and nothing is kept.
+    /// Makes a chain of which no change was made, without marks and old rows.
     pub(crate) fn new(alloc: Global, hashing: RandomState) -> Chain
         ensures { result ≡ nothing_kept }
     {
@@ -56,7 +56,7 @@ impl Chain {
             version: 0,
             live: Vec::new(alloc),
             fresh: 0,
-            kept: Kept::new(alloc, hashing),
+            old_rows: OldRows::new(alloc, hashing),
         }
     }
 
@@ -68,9 +68,9 @@ impl Chain {
         self.version
     }
 
-    /// Returns how many places have marks.
+    /// Returns how many versions have marks.
     pub(crate) fn len(&self) -> usize
-        ensures { result ≡ length (places self.now) }
+        ensures { result ≡ length (marked_versions self.now) }
     {
         if self.fresh > 0 {
             self.live.len() + 1
@@ -79,7 +79,7 @@ impl Chain {
         }
     }
 
-    /// Returns how many of them are before the version.
+    /// Returns how many of them are before the version that the table has now.
     pub(crate) fn earlier(&self) -> usize
         ensures { result ≡ length self.now.live }
     {
@@ -94,83 +94,84 @@ impl Chain {
         self.fresh += 1;
     }
 
-    /// Counts one mark less at the place. Where that was the earliest one and goes, all notes before the next one go,
-    /// with the rows of these that didn't change since it; after the last place all goes.
-    pub(crate) fn release(&mut self, place: u64)
-        requires { is_place place (places self.old) ≡ true }
+    /// Counts one mark less at the version. Where that was the earliest one with marks and has none left, all entries
+    /// of the log before the next one go, with the old rows of rows that didn't change since it; after the last one
+    /// all goes.
+    pub(crate) fn release(&mut self, version: u64)
+        requires { is_marked version (marked_versions self.old) ≡ true }
         ensures version { self.new.version ≡ self.old.version }
-        ensures places { places self.new ≡ fewer place (places self.old) }
-        ensures contents { (t : model_tables.Table) (p : ℕ) → is_place p (places self.new) ≡ true → content_at p t self.new.rows ≡ content_at p t self.old.rows }
+        ensures marked_versions { marked_versions self.new ≡ fewer version (marked_versions self.old) }
+        ensures contents { (t : model_tables.Table) (p : ℕ) → is_marked p (marked_versions self.new) ≡ true → content_at p t self.new.rows ≡ content_at p t self.old.rows }
         ensures past { (t : model_tables.Table) → IsChainOf t self.old → IsChainOf t self.new }
         ensures rising { AreRising self.new.version self.new.live }
         ensures forgotten { HasForgotten self.old self.new }
     {
         let oldest = self.oldest();
-        self.take(place);
+        self.take(version);
         if self.oldest() != oldest {
             self.forget();
         }
     }
 
-    fn take(&mut self, place: u64)
-        requires { is_place place (places self.old) ≡ true }
+    fn take(&mut self, version: u64)
+        requires { is_marked version (marked_versions self.old) ≡ true }
         ensures version { self.new.version ≡ self.old.version }
-        ensures places { places self.new ≡ fewer place (places self.old) }
+        ensures marked_versions { marked_versions self.new ≡ fewer version (marked_versions self.old) }
         ensures rows { self.new.rows ≡ self.old.rows }
-        ensures notes { self.new.notes ≡ self.old.notes }
+        ensures log { self.new.log ≡ self.old.log }
         ensures rising { AreRising self.new.version self.new.live }
     {
-        if place == self.version {
+        if version == self.version {
             self.fresh -= 1;
         } else {
-            take_in(&mut self.live, place);
+            take_in(&mut self.live, version);
         }
     }
 
-    /// Leaves out what rows were that no place needs.
+    /// Leaves out what rows were that no marked version needs.
     fn forget(&mut self)
         ensures version { self.new.version ≡ self.old.version }
-        ensures places { places self.new ≡ places self.old }
-        ensures contents { (t : model_tables.Table) (p : ℕ) → is_place p (places self.old) ≡ true → content_at p t self.new.rows ≡ content_at p t self.old.rows }
+        ensures marked_versions { marked_versions self.new ≡ marked_versions self.old }
+        ensures contents { (t : model_tables.Table) (p : ℕ) → is_marked p (marked_versions self.old) ≡ true → content_at p t self.new.rows ≡ content_at p t self.old.rows }
         ensures past { (t : model_tables.Table) → IsChainOf t self.old → IsChainOf t self.new }
         ensures rising { AreRising self.new.version self.new.live }
-        ensures forgotten { IsForgotten (earliest (places self.new)) self.new.rows self.new.notes }
+        ensures forgotten { IsForgotten (earliest (marked_versions self.new)) self.new.rows self.new.log }
     {
         match self.oldest() {
-            Some(place) => self.kept.forget_before(place),
-            None => self.kept.clear(),
+            Some(version) => self.old_rows.forget_before(version),
+            None => self.old_rows.clear(),
         }
     }
 
-    /// Returns the earliest place.
+    /// Returns the earliest marked version.
     fn oldest(&self) -> Option<u64>
-        ensures none { IfNone result (places self.now ≡ []) }
-        ensures some { IfSome result (λ oldest. (p : ℕ) → is_place p (places self.now) ≡ true → nat_le oldest p ≡ true) }
-        ensures earliest { result ≡ earliest (places self.now) }
+        ensures none { IfNone result (marked_versions self.now ≡ []) }
+        ensures some { IfSome result (λ oldest. (p : ℕ) → is_marked p (marked_versions self.now) ≡ true → nat_le oldest p ≡ true) }
+        ensures earliest { result ≡ earliest (marked_versions self.now) }
     {
         match self.live.first() {
-            Some(live) => Some(live.place),
+            Some(live) => Some(live.version),
             None => self.here(),
         }
     }
 
-    /// Returns the latest place.
+    /// Returns the latest marked version.
     fn newest(&self) -> Option<u64>
-        ensures none { IfNone result (places self.now ≡ []) }
-        ensures some { IfSome result (λ newest. (p : ℕ) → is_place p (places self.now) ≡ true → (nat_le p newest ≡ true) × (is_kept newest self.now.live p ≡ true)) }
+        ensures none { IfNone result (marked_versions self.now ≡ []) }
+        ensures some { IfSome result (λ newest. (p : ℕ) → is_marked p (marked_versions self.now) ≡ true → (nat_le p newest ≡ true) × (is_kept newest self.now.live p ≡ true)) }
         ensures past { IfSome result (λ newest. nat_le newest self.now.version ≡ true) }
-        ensures place { IfSome result (λ newest. is_place newest (places self.now) ≡ true) }
+        ensures marked { IfSome result (λ newest. is_marked newest (marked_versions self.now) ≡ true) }
     {
         match self.here() {
-            Some(place) => Some(place),
-            None => last_place(self.live.as_slice()),
+            Some(version) => Some(version),
+            None => last_version(self.live.as_slice()),
         }
     }
 
-    /// Returns the version, where marks stand for what the table is now.
+    /// Returns the version that the table has now, where marks stand for that.
     fn here(&self) -> Option<u64>
         ensures none { IfNone result (self.now.fresh ≡ 0) }
-        ensures some { IfSome result (λ place. (place ≡ self.now.version) × (0 < self.now.fresh)) }
+        ensures some { IfSome result (λ version. (version ≡ self.now.version) × (0 < self.now.fresh)) }
     {
         if self.fresh > 0 {
             Some(self.version)
@@ -179,12 +180,13 @@ impl Chain {
         }
     }
 
-    /// Makes ready for a change of the table: keeps what the rows that it names are now, up to a place with marks, and finds room for
-    /// one place more. Where memory is refused, all marks stand for what they did. O(rows changed).
+    /// Makes ready for a change of the table: records what the rows that it names are now, up to a marked version,
+    /// and finds room for one marked version more. Where memory is refused, all marks stand for what they did.
+    /// O(rows changed).
     pub(crate) fn prepare(&mut self, change: &TableChange) -> Result<(), AllocError>
         ensures ok { OnOk result (IsReadyFor change.now self.new) }
         ensures stands { (t : model_tables.Table) → IsOf t change.now → StandsAsBefore t self.old self.new }
-        ensures labels { (q : ℕ) (u : model_uuid.Uuid) → has_label q (finite.get self.new.rows u) ≡ true → (has_label q (finite.get self.old.rows u) || is_place q (places self.old)) ≡ true }
+        ensures labels { (q : ℕ) (u : model_uuid.Uuid) → has_label q (finite.get self.new.rows u) ≡ true → (has_label q (finite.get self.old.rows u) || is_marked q (marked_versions self.old)) ≡ true }
     {
         if change.is_empty() {
             return Ok(());
@@ -193,11 +195,11 @@ impl Chain {
         let Some(newest) = self.newest() else {
             return Ok(());
         };
-        let places = Places::of(self.live.as_slice());
-        self.kept.record_all(newest, &places, change)
+        let marked_versions = MarkedVersions::of(self.live.as_slice());
+        self.old_rows.record_all(newest, &marked_versions, change)
     }
 
-    /// Finds room for one place more, and sees that the version has a next one.
+    /// Finds room for one marked version more, and sees that the version has a next one.
     fn make_room(&mut self) -> Result<(), AllocError>
         ensures ok { OnOk result ((is_roomy self.new.fresh self.new.room ≡ true) × (self.new.version < 2 ^ 64 - 1)) }
         ensures version { self.new.version ≡ self.old.version }
@@ -219,7 +221,7 @@ impl Chain {
         requires roomy { is_roomy self.old.fresh self.old.room ≡ true }
         requires low { self.old.version < 2 ^ 64 - 1 }
         ensures version { self.new.version ≡ self.old.version + 1 }
-        ensures places { places self.new ≡ places self.old }
+        ensures marked_versions { marked_versions self.new ≡ marked_versions self.old }
         ensures rows { self.new.rows ≡ self.old.rows }
         ensures rising { AreRising self.new.version self.new.live }
     {
@@ -227,33 +229,33 @@ impl Chain {
             self.version += 1;
             return;
         }
-        self.live.push_reserved(Live {
-            place: self.version,
+        self.live.push_reserved(MarkedVersion {
+            version: self.version,
             marks: self.fresh,
         });
         self.fresh = 0;
         self.version += 1;
     }
 
-    /// Returns what leads from the table at the place to the table now. O(rows kept).
-    pub(crate) fn since(&self, table: &Table, place: u64) -> Result<TableChange, AllocError>
-        ensures { IfOk result (λ made. made ≡ change (content_at place table.now self.now.rows) table.now) }
+    /// Returns what leads from the table at the version to the table now. O(old rows).
+    pub(crate) fn since(&self, table: &Table, version: u64) -> Result<TableChange, AllocError>
+        ensures { IfOk result (λ made. made ≡ change (content_at version table.now self.now.rows) table.now) }
     {
-        self.kept.since(table, place)
+        self.old_rows.since(table, version)
     }
 }
 
-/// Counts one mark less at the place.
-fn take_in(live: &mut Vec<Live>, place: u64)
-    ensures { live.new.items ≡ fewer place live.old.items }
+/// Counts one mark less at the version.
+fn take_in(live: &mut Vec<MarkedVersion>, version: u64)
+    ensures { live.new.items ≡ fewer version live.old.items }
 {
-    let Some(index) = position(live.as_slice(), place) else {
+    let Some(index) = position(live.as_slice(), version) else {
         return;
     };
-    let Live { place, marks } = live[index];
+    let MarkedVersion { version, marks } = live[index];
     if marks > 1 {
-        live[index] = Live {
-            place,
+        live[index] = MarkedVersion {
+            version,
             marks: marks - 1,
         };
     } else {
@@ -261,18 +263,18 @@ fn take_in(live: &mut Vec<Live>, place: u64)
     }
 }
 
-fn position(live: &[Live], place: u64) -> Option<usize>
-    ensures { result ≡ position (λ l. nat_eq place l.0) live.now }
+fn position(live: &[MarkedVersion], version: u64) -> Option<usize>
+    ensures { result ≡ position (λ l. nat_eq version l.0) live.now }
 {
-    live.iter().position(|live| place == live.place)
+    live.iter().position(|live| version == live.version)
 }
 
-fn last_place(live: &[Live]) -> Option<u64>
+fn last_version(live: &[MarkedVersion]) -> Option<u64>
     ensures none { IfNone result (live.now ≡ []) }
-    ensures some { IfSome result (λ place. option_map (λ l. l.0) (slice_get live.now (length live.now - 1)) ≡ Some place) }
+    ensures some { IfSome result (λ version. option_map (λ l. l.0) (slice_get live.now (length live.now - 1)) ≡ Some version) }
 {
     let last = live.last()?;
-    Some(last.place)
+    Some(last.version)
 }
 
 // Written, and not derived, so that each end of a scope is one call to prove.
@@ -282,7 +284,7 @@ impl Drop for Chain {
             version: _,
             live: _,
             fresh: _,
-            kept: _,
+            old_rows: _,
         } = self;
     }
 }

@@ -67,10 +67,10 @@ impl Chains {
     #[inline(always)]
     pub fn is_now(&self, mark: &Mark) -> bool
         requires { IsLive self.now mark.now }
-        ensures place { result ≡ nat_eq mark.now.place (version self.now mark.now.table) }
+        ensures version { result ≡ nat_eq mark.now.version (version self.now mark.now.table) }
         ensures content { result ≡ true → mark.now.content ≡ table_at self.now.db mark.now.table }
     {
-        mark.place == self.chains[mark.table.place()].version()
+        mark.version == self.chains[mark.table.place()].version()
     }
 
     /// Returns how many contents of the table marks stand for; marks between which it didn't change count once. O(1).
@@ -94,7 +94,7 @@ impl Chains {
     /// Makes the whole change, or none; all that marks stand for stays. Where memory is refused nothing
     /// changed, and the change comes back; so it does after 2^64 - 1 changes of one table. O(rows changed)
     /// and O(tables); a row that changes for the first time since the newest mark of its table was made costs
-    /// O(log n) more for n places with marks, on the average.
+    /// O(log n) more for n versions with marks, on the average.
     pub fn absorb(&mut self, change: ChangeSet) -> Result<(), AllocFailed<ChangeSet>>
         requires { IsChangeOf self.old.db change }
         ensures ok { OnOk result (self.new ≡ absorbed change self.old) }
@@ -126,7 +126,7 @@ impl Chains {
         self.chains[place].mark();
         Mark {
             table,
-            place: version,
+            version,
             content: Content::of(&self.db.tables()[place]),
         }
     }
@@ -135,11 +135,11 @@ impl Chains {
     /// earliest mark that is left.
     pub fn release(&mut self, mark: Mark)
         requires { IsLive self.old mark }
-        ensures chains { self.new ≡ released mark.table mark.place self.old }
+        ensures chains { self.new ≡ released mark.table mark.version self.old }
         ensures now { IsNow self.new }
     {
-        let Mark { table, place, .. } = mark;
-        self.chains[table.place()].release(place);
+        let Mark { table, version, .. } = mark;
+        self.chains[table.place()].release(version);
     }
 
     /// Lets the mark stand for what its table is now.
@@ -147,7 +147,7 @@ impl Chains {
         requires live { IsLive self.old mark.old }
         requires few { count self.old mark.old.table (version self.old mark.old.table) < 2 ^ 64 - 1 }
         ensures mark { mark.new ≡ mark_of self.old mark.old.table }
-        ensures chains { self.new ≡ released mark.old.table mark.old.place (marked mark.old.table self.old) }
+        ensures chains { self.new ≡ released mark.old.table mark.old.version (marked mark.old.table self.old) }
         ensures now { IsNow self.new }
     {
         let new = self.mark_now(self.table_of(mark));
@@ -163,7 +163,7 @@ impl Chains {
         ensures { IfOk result (λ made. made ≡ change mark.now.content (table_at self.now.db mark.now.table)) }
     {
         let place = self.table_of(mark).place();
-        self.chains[place].since(&self.db.tables()[place], mark.place)
+        self.chains[place].since(&self.db.tables()[place], mark.version)
     }
 
     /// Returns the mark's table as it is now. O(1).
@@ -174,7 +174,7 @@ impl Chains {
         table_in(self.db.tables(), self.table_of(mark))
     }
 
-    /// Returns the rows of the mark's table as it is now, with what the database keeps beside them. O(1).
+    /// Returns the rows of the mark's table as it is now, with the database's row indexes of them. O(1).
     pub fn rows(&self, mark: &Mark) -> Rows<'_>
         requires { IsLive self.now mark.now }
         ensures { result ≡ table_at self.entry.now.db mark.entry.now.table }

@@ -10,10 +10,10 @@ mod chain;
 mod chains;
 mod content;
 mod history;
-mod kept;
-mod live;
 mod log;
 mod mark;
+mod marked_versions;
+mod old_rows;
 
 pub use chains::Chains;
 pub use mark::Mark;

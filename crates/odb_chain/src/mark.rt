@@ -10,7 +10,7 @@ use std::marker::Model;
 #[derive(Drop)]
 pub struct Mark {
     pub(crate) table: TableId,
-    pub(crate) place: u64,
+    pub(crate) version: u64,
     pub(crate) content: Content,
 }
 
@@ -22,7 +22,7 @@ impl Model for Mark {
 
     ghost coded = { mark_code };
 
-    ghost view = { λ m. record { table = m.table; place = m.place; content = m.content.table } };
+    ghost view = { λ m. record { table = m.table; version = m.version; content = m.content.table } };
 }
 
 impl Mark {
@@ -34,12 +34,12 @@ impl Mark {
         self.table
     }
 
-    /// Returns how many changes the table had when the mark was made, which tells it apart from marks for other
-    /// contents of this table. O(1).
+    /// Returns the version of the table for which it stands: how many changes the table had when the mark was made,
+    /// which tells it apart from marks for other contents of this table. O(1).
     #[inline(always)]
-    pub fn place(&self) -> u64
-        ensures { result ≡ self.now.place }
+    pub fn version(&self) -> u64
+        ensures { result ≡ self.now.version }
     {
-        self.place
+        self.version
     }
 }

@@ -12,7 +12,7 @@ use Rattle.odb_rpc.specs.Represented.Printable.{printable_data}
 use Rattle.odb_rpc.specs.Served.{served}
 use Rattle.odb_rpc.specs.declared.monitor.MonitorCall.{MonitorCall}
 use Rattle.odb_rpc.specs.declared.monitor.MonitorCall.TheVariants.{Cancel, Change, Start}
-use Rattle.odb_request.specs.Represented.Kind.{notation_of}
+use Rattle.odb_request.specs.Represented.Notation.{notation_of}
 use Rattle.serde_json.specs.View.{view}
 use Rattle.odb_rpc.proofs.Asked.{cancel_monitor-asked, change-asked, lock-asked, monitor-asked, steal-asked, transact-asked, transact-operations, unlock-asked}
 use Rattle.odb_rpc.proofs.LeftOut.{whole-at_key}
@@ -46,7 +46,7 @@ module _ (s : Schema) (d : Data) where
   unlock_own id name e = own (unlock-asked s.name (write_schema s) served d id name e).0
 
   pub monitor_own : (id : Data) (m : MonitorCall) → call_at s d ≡ monitor_called id m → Own
-  monitor_own id (Start a) e = own (monitor-asked s.name (write_schema s) served d id (notation_of a.kind) (printable_data a.id) (view a.requests.now) (option_map uuid_from a.since) e).0
+  monitor_own id (Start a) e = own (monitor-asked s.name (write_schema s) served d id (notation_of a.notation) (printable_data a.id) (view a.requests.now) (option_map uuid_from a.since) e).0
   monitor_own id (Change a) e = own (change-asked s.name (write_schema s) served d id (printable_data a.old) (printable_data a.new) (view a.filters.now) e).0
   monitor_own id (Cancel i) e = own (cancel_monitor-asked s.name (write_schema s) served d id (printable_data i) e).0
 

@@ -1,4 +1,4 @@
-//! Where transactions that fail are noted, so that they can be asked for their causes. [P 15.2]
+//! Where transactions that fail are kept, so that they can be asked for their causes. [P 15.2]
 
 use crate::failed::Failed;
 use crate::submitted::Submitted;
@@ -6,54 +6,54 @@ use crate::waiting::Waiting;
 use std::alloc::Global;
 use std::mem;
 
-/// Transactions that failed, and whether they are noted. No contract speaks of it.
+/// Transactions that failed, and whether they are kept. No contract speaks of it.
 #[derive(Drop)]
 pub(crate) struct Failures {
     alloc: Global,
-    noted: Vec<Failed>,
-    notes: bool,
+    failed: Vec<Failed>,
+    keeps: bool,
 }
 
 impl Failures {
-    /// Makes what notes nothing.
+    /// Makes what keeps nothing.
     pub(crate) fn new(alloc: Global) -> Failures {
         Failures {
             alloc,
-            noted: Vec::new(alloc),
-            notes: false,
+            failed: Vec::new(alloc),
+            keeps: false,
         }
     }
 
-    /// Notes what fails from now on.
+    /// Keeps what fails from now on.
     pub(crate) fn begin(&mut self) {
-        self.notes = true;
+        self.keeps = true;
     }
 
-    /// Returns whether what fails is noted.
-    pub(crate) fn notes(&self) -> bool {
-        self.notes
+    /// Returns whether what fails is kept.
+    pub(crate) fn keeps(&self) -> bool {
+        self.keeps
     }
 
-    /// Notes a transaction, where that is asked for. Where memory is refused it isn't noted.
+    /// Adds a transaction, where those that fail are kept. Where memory is refused it isn't added.
     pub(crate) fn add(&mut self, asked: Submitted) {
-        if !self.notes {
+        if !self.keeps {
             return;
         }
         if let Ok(transaction) = Waiting::new(self.alloc, asked, None, 0) {
-            drop(self.noted.push(Failed::new(transaction)));
+            drop(self.failed.push(Failed::new(transaction)));
         }
     }
 
-    /// Notes these too. Where memory is refused they aren't noted.
+    /// Adds these too. Where memory is refused they aren't added.
     pub(crate) fn append(&mut self, failed: Vec<Failed>) {
         for one in failed {
-            drop(self.noted.push(one));
+            drop(self.failed.push(one));
         }
     }
 
-    /// Takes out what was noted.
+    /// Takes out what was kept.
     pub(crate) fn take(&mut self) -> Vec<Failed> {
         let alloc = self.alloc;
-        mem::replace(&mut self.noted, Vec::new(alloc))
+        mem::replace(&mut self.failed, Vec::new(alloc))
     }
 }

@@ -10,7 +10,7 @@ ghost use Rattle.odb_atoms.specs.FinMap.{get};
 ghost use Rattle.odb_atoms.specs.Uuid as identifiers;
 ghost use Rattle.odb_atoms.specs.Uuid.{uuid_from};
 ghost use Rattle.odb_request.specs.Represented.Change as requested;
-ghost use Rattle.odb_request.specs.Represented.Kind.{notation_of};
+ghost use Rattle.odb_request.specs.Represented.Notation.{notation_of};
 ghost use Rattle.odb_request.specs.Represented.Shape.{table_name};
 ghost use Rattle.odb_request.specs.Requests.{read_changes, read_requests};
 ghost use Rattle.odb_round.specs.OfSchema.{AreOfSchema};
@@ -23,7 +23,7 @@ ghost use Rattle.odb_service.specs.Session.{start};
 ghost use Rattle.odb_service.specs.World.{asked_of, change_of, fail, handle};
 ghost use Rattle.odb_service.specs.World.{on_cancel_monitor, on_monitor, post, watched};
 ghost use Rattle.odb_sessions.specs.Named.{named};
-ghost use Rattle.odb_sessions.specs.Represented.Queued.{filters_of};
+ghost use Rattle.odb_sessions.specs.Represented.Item.{filters_of};
 ghost use Rattle.odb_sessions.specs.Started.{AreApart, AreOfTables};
 ghost use Rattle.odb_wire.specs.Message.{has_left_out, id_of};
 ghost use Rattle.odb_wire.specs.Shown.{request_data};
@@ -55,7 +55,7 @@ impl Core {
         requires own { has_left_out (id_of (request_data request.now)) ≡ false }
         ensures ok { OnOk result ((id : Data) (fresh : List identifiers.Uuid)
             → by_service (λ h. handle h session (request_data request.now) fresh (monitor_called id call.entry)) self.old ≡ self.new) }
-        ensures rest { OnlySessions self.old self.new }
+        ensures others { OnlySessions self.old self.new }
         ensures err { OnErr result (self.new ≡ self.old) }
     {
         match call {
@@ -76,8 +76,8 @@ impl Core {
     ) -> Result<(), AllocError>
         requires own { has_left_out (id_of (request_data request.now)) ≡ false }
         ensures ok { OnOk result (by_service (λ h. on_monitor h session (request_data request.now)
-            (notation_of asked.entry.kind) (printable_data asked.entry.id) (option_map uuid_from asked.entry.since) (view asked.entry.requests.now)) self.old ≡ self.new) }
-        ensures rest { OnlySessions self.old self.new }
+            (notation_of asked.entry.notation) (printable_data asked.entry.id) (option_map uuid_from asked.entry.since) (view asked.entry.requests.now)) self.old ≡ self.new) }
+        ensures others { OnlySessions self.old self.new }
         ensures err { OnErr result (self.new ≡ self.old) }
     {
         if self.is_used(session, asked.id)? {
@@ -112,11 +112,11 @@ impl Core {
         requires of { AreOfSchema self.old.schema requests.items }
         ensures ok { OnOk result (in_world (post session (start (request_data request.now) (record {
           id = printable_data asked.entry.id;
-          notation = notation_of asked.entry.kind;
+          notation = notation_of asked.entry.notation;
           requests = requests.items;
           since = option_map uuid_from asked.entry.since;
         }) ∷ [])) self.old ≡ self.new) }
-        ensures rest { OnlySessions self.old self.new }
+        ensures others { OnlySessions self.old self.new }
         ensures err { OnErr result (self.new ≡ self.old) }
     {
         let starting = Starting::new(self.alloc, request, asked, requests)?;
@@ -135,7 +135,7 @@ impl Core {
         requires { has_left_out (id_of (request_data request.now)) ≡ false }
         ensures ok { OnOk result (by_service (λ h w. on_cancel_monitor h session (request_data request.now) (printable_data id.entry)
             (watched h (printable_data id.entry) (asked_of h (get w.sessions session))) w) self.old ≡ self.new) }
-        ensures rest { OnlySessions self.old self.new }
+        ensures others { OnlySessions self.old self.new }
         ensures err { OnErr result (self.new ≡ self.old) }
     {
         if !self.is_used(session, id)? {
@@ -157,7 +157,7 @@ impl Core {
         ensures ok { OnOk result (by_service (λ h w. change_of h session (request_data request.now)
             (printable_data asked.entry.old) (printable_data asked.entry.new) (view asked.entry.filters.now)
             (watched h (printable_data asked.entry.old) (asked_of h (get w.sessions session))) w) self.old ≡ self.new) }
-        ensures rest { OnlySessions self.old self.new }
+        ensures others { OnlySessions self.old self.new }
         ensures err { OnErr result (self.new ≡ self.old) }
     {
         match self.read_change(session, asked)? {
@@ -183,7 +183,7 @@ impl Core {
         let Some(monitor) = self.sessions.asked_watch(session, &old)? else {
             return Ok(Err(Failure::UnknownMonitor));
         };
-        if !monitor.kind().is_conditional() {
+        if !monitor.notation().is_conditional() {
             return Ok(Err(Failure::UnknownMonitor));
         }
         if self.is_taken(session, &old, asked.new)? {
@@ -215,7 +215,7 @@ impl Core {
         requires { has_left_out (id_of (request_data request.now)) ≡ false }
         ensures ok { OnOk result (in_world (changed_by session (request_data request.now) (printable_data asked.entry.old) (printable_data asked.entry.new)
             (Ok (filters_of changes))) self.old ≡ self.new) }
-        ensures rest { OnlySessions self.old self.new }
+        ensures others { OnlySessions self.old self.new }
         ensures err { OnErr result (self.new ≡ self.old) }
     {
         let changing = Changing::new(self.alloc, request, asked.old, asked.new, changes)?;
@@ -232,7 +232,7 @@ impl Core {
     ) -> Result<(), AllocError>
         requires { has_left_out (id_of (request_data request.now)) ≡ false }
         ensures ok { OnOk result (in_world (fail session (request_data request.now) (failure_of why)) self.old ≡ self.new) }
-        ensures rest { OnlySessions self.old self.new }
+        ensures others { OnlySessions self.old self.new }
         ensures err { OnErr result (self.new ≡ self.old) }
     {
         let reply = failed(self.alloc, request, why)?;
@@ -247,10 +247,10 @@ fn requests_of(
     asked: MonitorStart<'_>,
 ) -> Result<Result<Vec<monitored::Request>, Error>, AllocError>
     ensures { IfOk result (λ read. requests_as read
-        ≡ read_requests served.now (notation_of asked.entry.kind) (view asked.entry.requests.now)) }
+        ≡ read_requests served.now (notation_of asked.entry.notation) (view asked.entry.requests.now)) }
 {
     let schema = served.shared()?;
-    match read_requests(alloc, asked.requests, &schema, asked.kind) {
+    match read_requests(alloc, asked.requests, &schema, asked.notation) {
         Ok(requests) => Ok(Ok(requests)),
         Err(RequestFault::Failed(why)) => Ok(Err(why)),
         Err(RequestFault::Memory) => Err(AllocError),

@@ -174,7 +174,7 @@ impl Core {
             ≡ call_at self.old.schema (request_data request.now) }
         ensures ok { OnOk result ((found : Option Data) → at_once (call_at self.old.schema (request_data request.now)) ≡ Some found
             → in_world (post session (option_to_list (option_map (said (request_data request.now)) found))) self.old ≡ self.new) }
-        ensures rest { OnlySessions self.old self.new }
+        ensures others { OnlySessions self.old self.new }
         ensures err { OnErr result (self.new ≡ self.old) }
     {
         match answer_at_once(self.alloc, &self.served, request, call)? {
@@ -221,7 +221,7 @@ impl Core {
     ) -> Result<(), AllocError>
         requires { has_left_out (id_of (request_data request.now)) ≡ false }
         ensures ok { OnOk result (by_service (λ h. on_lock h session (request_data request.now) (locked h) (claim_by stolen self.old.world.locks session name.now)) self.old ≡ self.new) }
-        ensures rest { OnlyLocksAndSessions self.old self.new }
+        ensures others { OnlyLocksAndSessions self.old self.new }
         ensures err { OnErr result (self.new ≡ self.old) }
     {
         let preview = match self.locks.preview_claim(session, name, stolen) {
@@ -246,7 +246,7 @@ impl Core {
     ) -> Result<(), AllocError>
         requires { has_left_out (id_of (request_data request.now)) ≡ false }
         ensures ok { OnOk result (by_service (λ h. on_lock h session (request_data request.now) (λ b. no_result) (model.unlock self.old.world.locks session name.now)) self.old ≡ self.new) }
-        ensures rest { OnlyLocksAndSessions self.old self.new }
+        ensures others { OnlyLocksAndSessions self.old self.new }
         ensures err { OnErr result (self.new ≡ self.old) }
     {
         let notices = match self.locks.preview_unlock(session, name) {
@@ -274,7 +274,7 @@ impl Core {
         requires value { has_float (view value.now) ≡ false }
         ensures ok { IfOk result (λ queued.
             in_world (λ w. succeed session (request_data request.now) (view value.now) (post_notices (notices_of lock_notices.now) w)) self.old ≡ self.new) }
-        ensures rest { OnlySessions self.old self.new }
+        ensures others { OnlySessions self.old self.new }
         ensures back { IfOk result (λ queued. unposted queued.items self.new.world.sessions ≡ self.old.world.sessions) }
         ensures err { OnErr result (self.new ≡ self.old) }
     {
@@ -295,7 +295,7 @@ impl Core {
         ensures ok { OnOk result ((e : model.LockFault) → fault_of fault ≡ Some e
             → in_world (fail session (request_data request.now) (failed (lock_error e))) self.old ≡ self.new) }
         ensures memory { OnOk result (IsSome (fault_of fault)) }
-        ensures rest { OnlySessions self.old self.new }
+        ensures others { OnlySessions self.old self.new }
         ensures err { OnErr result (self.new ≡ self.old) }
     {
         let why = match fault {

@@ -1,6 +1,6 @@
 //! The server as a machine over events. [P 10.3, 12.3, 13.1, 14]
 
-ghost use Rattle.std.specs.Prelude.{◌≡◌, ◌≤◌, ◌↔◌, ℕ, List, ◌∷◌, [], flat_map, is_some, map, length, Ok, OnOk, OnErr, IfNone, IfOk, IfErr, IfSome, IsErrOf};
+ghost use Rattle.std.specs.Prelude.{◌≡◌, ◌+◌, ◌≤◌, ◌↔◌, ℕ, List, ◌∷◌, [], flat_map, is_some, map, length, Ok, OnOk, OnErr, IfNone, IfOk, IfErr, IfSome, IsErrOf};
 ghost use Rattle.std.specs.List.{All};
 ghost use Rattle.odb_atoms.specs.FinMap.{get, len};
 ghost use Rattle.odb_atoms.specs.Represented.Atom.{uuid_of};
@@ -204,15 +204,15 @@ impl Core {
         }
     }
 
-    /// Has the transactions that fail from now on noted, also those that wait before, until [`Core::take_failed`] takes them
+    /// Keeps the transactions that fail from now on, also those that wait before, until [`Core::take_failed`] takes them
     /// out: so it is to be called again and again. Of what is served nothing changes by it. O(1).
-    pub fn note_failures(&mut self)
+    pub fn keep_failures(&mut self)
         ensures { self.new ≡ self.old }
     {
         self.failures.begin();
     }
 
-    /// Takes out the transactions that failed and were noted, in the order in which they ended. One for which memory was
+    /// Takes out the transactions that failed and were kept, in the order in which they ended. One for which memory was
     /// refused then isn't among them. O(1).
     pub fn take_failed(&mut self) -> Vec<Failed>
         ensures { self.new ≡ self.old }
@@ -275,7 +275,7 @@ impl Core {
 
     /// Plans what `round` gives these sessions: the jobs that are to be composed for it, of which no two
     /// are alike, those of replies to who resumes among them. What a job is alike by names the changes of tables at which
-    /// clients were told by the places of their marks, and what it says was told is what the chains keep there. A text that
+    /// clients were told by the versions of their marks, and what it says was told is what the chains keep there. A text that
     /// is composed is of the job of what is due to its session, alike by the marks of the monitor to which that is due; the job
     /// says what the client was told and what is asked, and what stands around the composition is what
     /// the protocol has around any table updates there. Nothing is composed, and nothing is taken. O(k log k + k log n)
@@ -293,14 +293,14 @@ impl Core {
         plan_round(&self.sessions, schema, listed.as_slice())
     }
 
-    /// Keeps the text of a first reply, if there is one, which [`Jobs::first_text`] found for this core as it is: until the
-    /// database changes, who asks the same is told the same by it. Where memory is refused it isn't kept. O(1), and what
-    /// letting eight texts go costs.
-    pub fn keep(&mut self, first: Option<FirstText>)
+    /// Adds the text of a first reply, if there is one, which [`Jobs::first_text`] found for this core as it is, to those that
+    /// are kept until the database changes: who asks the same is told the same by it. Where memory is refused it isn't kept.
+    /// O(1), and what letting eight texts go costs.
+    pub fn add_first_text(&mut self, first: Option<FirstText>)
         requires { IfSome first (IsFirstText self.old.world.db) }
         ensures { self.new ≡ self.old }
     {
-        self.sessions.keep(first);
+        self.sessions.add_first_text(first);
     }
 
     /// Carries out a round that was planned for this core as it is, and of which everything is composed: then it is a
@@ -315,14 +315,24 @@ impl Core {
     }
 
     /// Gives a session its next message, where that is a text which was finished when it was queued, as most replies are: then
-    /// it is a `round` of this session alone. Else it gives nothing, and nothing has changed. It takes no memory. O(log n), and
-    /// where the session is owed nothing more O(1) for each table of its monitors.
+    /// it is a `round` of this session alone. Else it gives nothing, and nothing has changed. It takes no memory. O(log n).
     pub fn take_finished(&mut self, session: SessionId) -> Option<Out>
         ensures round { IfSome result (λ out. serve (round (session ∷ [])) self.old ≡ Ok (self.new, sent_in out ∷ [])) }
         ensures finished { is_some result ≡ is_finished (get self.old.world.sessions session) }
         ensures none { IfNone result (self.new ≡ self.old) }
     {
         take_finished(&mut self.sessions, session)
+    }
+
+    /// Forgets of the first `most` sessions, from this number on, that may be owed something those that are found to be owed
+    /// nothing, and returns the first after them that may be owed something: so [`Core::owed`] gets shorter after rounds, which
+    /// leave in it whom they gave something. Where memory is refused a session stays in it. O(log n) for each, and O(1) for each
+    /// table of its monitors.
+    pub fn shorten_owed(&mut self, from: SessionId, most: usize) -> Option<SessionId>
+        ensures same { self.new ≡ self.old }
+        ensures next { IfSome result (λ next. from + most ≤ next) }
+    {
+        self.sessions.forget_resting(from, most)
     }
 
     /// Returns the sessions that may be owed something. A round gives nothing to any other, and changes nothing of it.

@@ -70,7 +70,7 @@ impl Core {
     /// Queues the reply of a transaction that changes nothing.
     fn reply(&mut self, asked: &Submitted, results: Vec<OperationResult>) -> Result<(), AllocError>
         ensures ok { OnOk result (by_service (ends asked.now results None) self.old ≡ self.new) }
-        ensures rest { OnlySessions self.old self.new }
+        ensures others { OnlySessions self.old self.new }
         ensures err { OnErr result (self.new ≡ self.old) }
     {
         let reply = replied_as(
@@ -85,7 +85,7 @@ impl Core {
     /// Queues an item for a session, if it is open.
     pub(crate) fn post(&mut self, session: SessionId, item: Finished) -> Result<(), AllocError>
         ensures ok { OnOk result (in_world (post session (item_of item ∷ [])) self.old ≡ self.new) }
-        ensures rest { OnlySessions self.old self.new }
+        ensures others { OnlySessions self.old self.new }
         ensures err { OnErr result (self.new ≡ self.old) }
     {
         let mut posts = Vec::with_capacity(self.alloc, 1)?;
@@ -131,7 +131,7 @@ impl Core {
             Ok(Outcome::Waiting { deadline }) => self.make_wait(asked, deadline),
             Ok(Outcome::Failed { results }) => {
                 let ended = self.reply(&asked, results);
-                self.note_failed(ended, asked)
+                self.add_failed(ended, asked)
             }
             Ok(Outcome::Done { results, change }) => {
                 let ended = self.complete(&asked, results, change);
@@ -141,8 +141,8 @@ impl Core {
         }
     }
 
-    /// Notes a transaction that failed, where that is asked for. Where memory was refused for its end it comes back.
-    fn note_failed(
+    /// Adds a transaction that failed, where those are kept. Where memory was refused for its end it comes back.
+    fn add_failed(
         &mut self,
         ended: Result<(), AllocError>,
         asked: Submitted,

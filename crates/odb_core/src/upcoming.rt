@@ -37,7 +37,7 @@ pub(crate) struct Plan {
     pub(crate) ended: Vec<Ended>,
     pub(crate) change: ChangeSet,
     pub(crate) left: WaitingList,
-    /// Those that waited and failed, where they are noted.
+    /// Those that waited and failed, where they are kept.
     pub(crate) failed: Vec<Failed>,
 }
 
@@ -56,9 +56,9 @@ pub(crate) struct Upcoming<'a> {
     marks: Vec<bool>,
     /// Whether memory was refused while a change was put in: then nothing can be tried any more.
     is_spoilt: bool,
-    /// Those that waited and failed, and whether they are noted.
+    /// Those that waited and failed, and whether they are kept.
     failed: Vec<Failed>,
-    notes: bool,
+    keeps: bool,
 }
 
 impl<'a> Model for Upcoming<'a> {
@@ -129,7 +129,7 @@ impl Core {
             marks: Vec::from_elem(self.alloc, true, self.sessions.db().len())?,
             is_spoilt: false,
             failed: Vec::new(self.alloc),
-            notes: self.failures.notes(),
+            keeps: self.failures.keeps(),
         })
     }
 }
@@ -215,7 +215,7 @@ impl Upcoming<'_> {
         let fails = fails(&outcome);
         match self.attempt_with(waiting.submitted(), outcome)? {
             Tried::Ended => {
-                self.note_ended(waiting, fails);
+                self.add_ended(waiting, fails);
                 Ok(None)
             }
             Tried::Waiting { deadline } => {
@@ -224,11 +224,12 @@ impl Upcoming<'_> {
         }
     }
 
-    /// Notes one that waited and ended, where it failed and that is asked for. Where memory is refused it isn't noted.
-    fn note_ended(&mut self, waiting: Waiting, fails: bool)
+    /// Adds one that waited and ended to those that failed, where it did and they are kept. Where memory is refused it isn't
+    /// added.
+    fn add_ended(&mut self, waiting: Waiting, fails: bool)
         ensures { self.new ≡ self.old }
     {
-        if fails && self.notes {
+        if fails && self.keeps {
             drop(self.failed.push(Failed::new(waiting)));
         }
     }
@@ -402,7 +403,7 @@ impl Upcoming<'_> {
             marks: _,
             is_spoilt,
             failed,
-            notes: _,
+            keeps: _,
         } = self;
         if is_spoilt {
             return Err(AllocError);

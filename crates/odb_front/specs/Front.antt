@@ -121,9 +121,9 @@ of_transact db params =
 
 -- what names a monitor by the second of its `params`: where that is, unless a monitor of another database has this id: then the reply is `syntax error`, as within one database
 abbrev pub unless_taken : Destination → List Text → List Text → List Data → Destination
-unless_taken place others more params =
+unless_taken there others more params =
     if second_among others params then destination.Front
-    else (if second_among more params then destination.Front else place)
+    else (if second_among more params then destination.Front else there)
 
 abbrev pub of_start : Names → Ids → List Data → Destination
 of_start db ids params =
@@ -245,12 +245,12 @@ named_by (Some gone) come ts = put_in_place gone come ts
 abbrev pub named : Naming → List Text → List Text
 named n ts = named_by n.gone n.come ts
 
-abbrev pub noted : Destination → Naming → Ids → Ids
-noted destination.First n ids = record ids { first = named n ids.first }
-noted destination.Second n ids = record ids { second = named n ids.second }
-noted destination.Both n ids = ids
-noted destination.Server n ids = record ids { server = named n ids.server }
-noted destination.Front n ids = ids
+abbrev pub with_naming : Destination → Naming → Ids → Ids
+with_naming destination.First n ids = record ids { first = named n ids.first }
+with_naming destination.Second n ids = record ids { second = named n ids.second }
+with_naming destination.Both n ids = ids
+with_naming destination.Server n ids = record ids { server = named n ids.server }
+with_naming destination.Front n ids = ids
 
 abbrev pub with_waiting : Text → Ids → Ids
 with_waiting t ids = record ids { waiting = ids.waiting ++ t ∷ [] }

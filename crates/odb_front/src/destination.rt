@@ -35,7 +35,7 @@ pub fn destination_of(
     databases: &Databases,
     ids: &Ids,
 ) -> Result<Destination, AllocError>
-    ensures { IfOk result (λ place. place ≡ front.destination_of databases.now ids.now (request_data request.now)) }
+    ensures { IfOk result (λ destination. destination ≡ front.destination_of databases.now ids.now (request_data request.now)) }
 {
     let params = parameters(request);
     if request.is_notification() {
@@ -70,7 +70,7 @@ fn of_notification(
     params: &[Value],
     ids: &Ids,
 ) -> Result<Destination, AllocError>
-    ensures { IfOk result (λ place. place ≡ front.of_notification ids.now method.now (map view params.now)) }
+    ensures { IfOk result (λ destination. destination ≡ front.of_notification ids.now method.now (map view params.now)) }
 {
     if method != "cancel" {
         return Ok(Destination::First);
@@ -79,7 +79,7 @@ fn of_notification(
 }
 
 fn of_cancel(alloc: Global, params: &[Value], ids: &Ids) -> Result<Destination, AllocError>
-    ensures { IfOk result (λ place. place ≡ front.of_cancel ids.now (map view params.now)) }
+    ensures { IfOk result (λ destination. destination ≡ front.of_cancel ids.now (map view params.now)) }
 {
     if first_among(alloc, params, ids.waiting())? {
         return Ok(Destination::Server);
@@ -97,7 +97,7 @@ fn of_request(
     databases: &Databases,
     ids: &Ids,
 ) -> Result<Destination, AllocError>
-    ensures { IfOk result (λ place. place ≡ front.of_request databases.now ids.now method.now (map view params.now)) }
+    ensures { IfOk result (λ destination. destination ≡ front.of_request databases.now ids.now method.now (map view params.now)) }
 {
     if is_answered(method, databases) {
         return Ok(Destination::Front);
@@ -167,7 +167,7 @@ fn of_start(
     databases: &Databases,
     ids: &Ids,
 ) -> Result<Destination, AllocError>
-    ensures { IfOk result (λ place. place ≡ front.of_start databases.now ids.now (map view params.now)) }
+    ensures { IfOk result (λ destination. destination ≡ front.of_start databases.now ids.now (map view params.now)) }
 {
     if databases.is_server(params) {
         return unless_taken(
@@ -200,7 +200,7 @@ fn of_start(
 }
 
 fn of_change(alloc: Global, params: &[Value], ids: &Ids) -> Result<Destination, AllocError>
-    ensures { IfOk result (λ place. place ≡ front.of_change ids.now (map view params.now)) }
+    ensures { IfOk result (λ destination. destination ≡ front.of_change ids.now (map view params.now)) }
 {
     if first_among(alloc, params, ids.server())? {
         return unless_taken(
@@ -237,11 +237,11 @@ fn of_change(alloc: Global, params: &[Value], ids: &Ids) -> Result<Destination, 
 fn unless_taken(
     alloc: Global,
     params: &[Value],
-    place: Destination,
+    destination: Destination,
     others: &[IdText],
     more: &[IdText],
 ) -> Result<Destination, AllocError>
-    ensures { IfOk result (λ goes. goes ≡ front.unless_taken place others.now more.now (map view params.now)) }
+    ensures { IfOk result (λ goes. goes ≡ front.unless_taken destination others.now more.now (map view params.now)) }
 {
     if second_among(alloc, params, others)? {
         return Ok(Destination::Front);
@@ -249,12 +249,12 @@ fn unless_taken(
     if second_among(alloc, params, more)? {
         return Ok(Destination::Front);
     }
-    Ok(place)
+    Ok(destination)
 }
 
 /// Returns where the end of a monitor goes.
 fn of_end(alloc: Global, params: &[Value], ids: &Ids) -> Result<Destination, AllocError>
-    ensures { IfOk result (λ place. place ≡ front.of_end ids.now (map view params.now)) }
+    ensures { IfOk result (λ destination. destination ≡ front.of_end ids.now (map view params.now)) }
 {
     if first_among(alloc, params, ids.server())? {
         return Ok(Destination::Server);

@@ -214,12 +214,16 @@ impl Ids {
         self.unanswered.as_slice()
     }
 
-    /// Notes how a request that went to a database names monitors from then on. O(bytes of the ids).
-    pub fn note(&mut self, place: Destination, naming: Naming) -> Result<(), AllocError>
-        ensures ok { OnOk result (self.new ≡ front.noted place naming self.old) }
+    /// Records how a request that went to a database names monitors from then on. O(bytes of the ids).
+    pub fn record_naming(
+        &mut self,
+        destination: Destination,
+        naming: Naming,
+    ) -> Result<(), AllocError>
+        ensures ok { OnOk result (self.new ≡ front.with_naming destination naming self.old) }
         ensures err { OnErr result (self.new ≡ self.old) }
     {
-        match place {
+        match destination {
             Destination::First => naming.put_into(&mut self.first),
             Destination::Second => naming.put_into(&mut self.second),
             Destination::Server => naming.put_into(&mut self.server),

@@ -6,15 +6,15 @@ use Rattle.odb_atoms.specs.Represented.Atom.{uuid_of}
 use Rattle.odb_wire.specs.Shown.{request_data}
 use Rattle.odb_service.specs.Run.{Event, submitted}
 use Rattle.odb_hub.specs.Batch.{TakesAll, TakesUpTo}
-use Rattle.odb_hub.specs.Kept.{Kept, Takes}
+use Rattle.odb_hub.specs.Guarded.{Guarded, Takes}
 use Rattle.odb_hub.specs.Represented.Submission.{event_of, events_of}
 use Rattle.odb_hub.specs.declared.submission.Submission.{Submission}
 
-pub begun : (events : List Event) (k : Kept) → TakesUpTo events events k k
+pub begun : (events : List Event) (k : Guarded) → TakesUpTo events events k k
 begun events k = ([], refl, refl)
 
 -- one event more at the end
-one_more : (es : List Event) (e : Event) (a b c : Kept) → TakesAll es a b → Takes e b c [] → c.rings ≡ b.rings → TakesAll (es ++ e ∷ []) a c
+one_more : (es : List Event) (e : Event) (a b c : Guarded) → TakesAll es a b → Takes e b c [] → c.rings ≡ b.rings → TakesAll (es ++ e ∷ []) a c
 one_more [] e a b c same takes rings = subst (λ at. TakesAll (e ∷ []) at c) same (c, takes, rings, refl)
 one_more (x ∷ es) e a b c all takes rings = (all.0, all.1, all.2, one_more es e all.0 b c all.3 takes rings)
 
@@ -23,7 +23,7 @@ pub last_first : (s now : ℕ) (xs : List Submission) (x : Submission) → event
 last_first s now xs x = ap reverse (map-append (event_of s now) xs (x ∷ [])) ∙ reverse-append (map (event_of s now) xs) (event_of s now x ∷ [])
 
 -- a submission that is taken
-pub took : (s now : ℕ) (events : List Event) (xs ys : List Submission) (x : Submission) (a b c : Kept)
+pub took : (s now : ℕ) (events : List Event) (xs ys : List Submission) (x : Submission) (a b c : Guarded)
     → TakesUpTo events (events_of s now xs) a b → xs ≡ ys ++ x ∷ [] → Takes (event_of s now x) b c [] → c.rings ≡ b.rings → TakesUpTo events (events_of s now ys) a c
 took s now events xs ys x a b c so_far is takes rings =
     let e : Event = event_of s now x in
@@ -31,11 +31,11 @@ took s now events xs ys x a b c so_far is takes rings =
     (so_far.0 ++ e ∷ [], so_far.1 ∙ ap (λ l. so_far.0 ++ l) left ∙ sym (append_assoc so_far.0 (e ∷ []) (events_of s now ys)), one_more so_far.0 e a b c so_far.2 takes rings)
 
 -- so many of a batch were taken, and these are left
-abbrev pub IsTaken : ℕ → ℕ → List Submission → List Submission → Kept → Kept → ℕ → Type 0
+abbrev pub IsTaken : ℕ → ℕ → List Submission → List Submission → Guarded → Guarded → ℕ → Type 0
 IsTaken s now batch left old new count = TakesUpTo (events_of s now batch) (events_of s now left) old new × (length batch ≡ length left + count)
 
 -- one more of a turn is taken
-pub took_turn : (s now : ℕ) (batch xs ys : List Submission) (x : Submission) (a b c : Kept) (count : ℕ)
+pub took_turn : (s now : ℕ) (batch xs ys : List Submission) (x : Submission) (a b c : Guarded) (count : ℕ)
     → IsTaken s now batch xs a b count → xs ≡ ys ++ x ∷ [] → Takes (event_of s now x) b c [] → c.rings ≡ b.rings → IsTaken s now batch ys a c (count + 1)
 took_turn s now batch xs ys x a b c count so_far is takes rings =
     let more : length xs ≡ length ys + 1 = ap length is ∙ length-append ys (x ∷ []) in

@@ -8,7 +8,7 @@ use Rattle.std.specs.List.Sorted.{IsStrictlySortedBy}
 use Rattle.std.specs.Ordering.{eq_by_cmp, is_lt, nat_cmp}
 use borrow.Author.Tests.{eqb-true, eq-eqb}
 use Rattle.odb_atoms.specs.FinMap.{get}
-use Rattle.odb_hub.specs.Kept.{Rising, is_in}
+use Rattle.odb_hub.specs.Guarded.{Rising, is_in}
 use Rattle.odb_hub.specs.Rings.{Ring, Rings, free_of, is_free, is_free_at}
 use Rattle.odb_atoms.proofs.Rising.{less}
 use Rattle.odb_service.proofs.SessionMaps.{key-itself, same_key}

@@ -12,7 +12,7 @@ use Rattle.std.proofs.lemmas.List.Kept.{IsStrictlySortedBy-filter}
 use borrow.Author.Tests.{eq-eqb}
 use Rattle.odb_atoms.specs.FinMap.{get}
 use Rattle.odb_service.proofs.SessionMaps.{other, same_key}
-use Rattle.odb_hub.specs.Kept.{is_in}
+use Rattle.odb_hub.specs.Guarded.{is_in}
 use Rattle.odb_hub.specs.Rings.{Rings, free_of, is_free_at}
 use Rattle.odb_hub.proofs.Free.{listed, rising}
 

@@ -7,7 +7,7 @@ use Rattle.std.specs.BTreeSet.{BTreeSet, contains}
 use Rattle.std.specs.Ordering.{nat_cmp}
 use Rattle.odb_atoms.specs.FinMap.{get, insert}
 use Rattle.odb_core.specs.Represented.Core.{IsQuietBut}
-use Rattle.odb_hub.specs.Kept.{Kept}
+use Rattle.odb_hub.specs.Guarded.{Guarded}
 use Rattle.odb_hub.specs.Own.{IsGiven, IsOwedNothing, TakesIf, TakesOwnRound}
 use Rattle.odb_hub.specs.Rings.{IsServed, Ring, Text, is_free_at, texts_to}
 use Rattle.odb_hub.proofs.Stepping.{ok_is, served_with}
@@ -62,7 +62,7 @@ not_free : (o p : Option Ring) (outs : List Text) → IsServed false outs o p �
 not_free None p outs k = ap is_free_at k.2
 not_free (Some a) p outs k = ap is_free_at k.3 ∙ ap (λ (t : Option Text). not (is_some t)) k.4.2 ∙ ap not k.0
 
-pub gave_nothing : (s : ℕ) (old new : Kept) → TakesOwnRound s 0 old new → IsGiven s new
+pub gave_nothing : (s : ℕ) (old new : Guarded) → TakesOwnRound s 0 old new → IsGiven s new
 gave_nothing s old new t = by t.0 t.2 t.4
   where
     none : t.1 ≡ []

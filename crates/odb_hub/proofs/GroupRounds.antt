@@ -8,7 +8,7 @@ use Rattle.std.proofs.lemmas.Option.{slice_get_past, slice_get_read}
 use Rattle.std.specs.BTreeSet.{BTreeSet, IsOrdered, contains}
 use Rattle.std.specs.Ordering.{nat_cmp}
 use Rattle.odb_atoms.specs.FinMap.{get}
-use Rattle.odb_hub.specs.Kept.{AreUnused, IsKept, Kept, is_in}
+use Rattle.odb_hub.specs.Guarded.{AreUnused, IsGuarded, Guarded, is_in}
 use Rattle.odb_hub.specs.GroupRounds.{TakesRound}
 use Rattle.odb_hub.specs.Rings.{HandsOver, HasRoom, IsFlushedAt, Ring, Rings, Text, free_of, is_free_at, ready_among, room_of, texts, texts_to}
 use Rattle.odb_hub.proofs.Free.{listed}
@@ -132,11 +132,11 @@ flushed_first (Some a) p q outs f g =
     let on : Grows outs (Some f.0) q = subst (λ (x : Option Ring). Grows outs x q) f.1 g in
     (on.0, on.1, on.2 ∙ ap (λ ts. ts ++ outs) (flushed_texts a f.0 f.2))
 
-module _ (from most given : ℕ) (next : Option ℕ) (old new : Kept) (t : TakesRound from most given next old new) where
+module _ (from most given : ℕ) (next : Option ℕ) (old new : Guarded) (t : TakesRound from most given next old new) where
   group_grown : (s : ℕ) → Grows (texts_to s t.2) (get old.rings s) (get new.rings s)
   group_grown s = flushed_first (get old.rings s) (get t.1 s) (get new.rings s) (texts_to s t.2) (t.4 s) (handed (get t.1 s) (get new.rings s) (texts_to s t.2) (t.8 s))
 
-  pub group_kept : IsKept old → IsKept new
+  pub group_kept : IsGuarded old → IsGuarded new
   group_kept kept = round_kept old new kept (take most (ready_among t.0 from t.1)) t.2 t.5 group_grown
 
   pub group_unused : (n : ℕ) → AreUnused old.rings n → AreUnused new.rings n

@@ -10,7 +10,7 @@ use Rattle.odb_wire.specs.Feeding.{Adds}
 use Rattle.odb_wire.specs.Stream.{messages}
 use Rattle.odb_wire.specs.Shown.{request_data}
 use Rattle.odb_hub.specs.Batch.{Submits}
-use Rattle.odb_hub.specs.Kept.{Kept}
+use Rattle.odb_hub.specs.Guarded.{Guarded}
 use Rattle.odb_hub.specs.Inbox.{Inbox, IsInOrder, Pending, is_asked, messages_of, events_at, requests_in}
 use Rattle.odb_hub.specs.Represented.Inbox.{pending_in, pending_of, submitted_in}
 use Rattle.odb_hub.specs.Represented.Submission.{events_of}
@@ -50,7 +50,7 @@ front_is s now ps qs taken e =
     sym (asked_back s now ps) ∙ ap (map asked_in) e ∙ map-append asked_in taken (events_at s now qs) ∙ ap (λ rest. map asked_in taken ++ rest) (asked_back s now qs)
 
 -- a turn takes what is pending from the front
-pub turn_front : {A : Type 0} (r : Result A EventRefusal) (s now : ℕ) (xs ys : List Submission) (old new : Kept) → Submits r s (events_of s now xs) (events_of s now ys) old new → (front : List Pending) × (pending_of xs ≡ front ++ pending_of ys)
+pub turn_front : {A : Type 0} (r : Result A EventRefusal) (s now : ℕ) (xs ys : List Submission) (old new : Guarded) → Submits r s (events_of s now xs) (events_of s now ys) old new → (front : List Pending) × (pending_of xs ≡ front ++ pending_of ys)
 turn_front r s now xs ys old new h =
     (map asked_in h.1.0, front_is s now (pending_of xs) (pending_of ys) h.1.0 (sym (events_are s now xs) ∙ h.1.1 ∙ ap (λ es. h.1.0 ++ es) (events_are s now ys)))
 

@@ -8,7 +8,7 @@ use borrow.Author.Tests.{eq-eqb}
 use Rattle.serde_json.specs.Data.{Data}
 use Rattle.odb_atoms.specs.FinMap.{empty, get, insert, remove}
 use Rattle.odb_atoms.specs.Uuid.{Uuid}
-use Rattle.odb_hub.specs.Kept.{AreOpen, AreSent, AreTold, AreUnused, EndsWith, IsKept, IsNew, counted, Kept, Takes, is_in, text_of}
+use Rattle.odb_hub.specs.Guarded.{AreOpen, AreSent, AreTold, AreUnused, EndsWith, IsGuarded, IsNew, counted, Guarded, Takes, is_in, text_of}
 use Rattle.odb_hub.specs.Rings.{IsFlushedAt, IsServed, Ring, Rings, Text, texts, texts_to}
 use Rattle.odb_hub.proofs.HandingOver.{flushed_texts, still_texts}
 use Rattle.odb_hub.proofs.Stepping.{IsTold, sent_on, history_begins, history_on, ends_nothing, open_closed, open_opened, open_round, open_submitted, open_ticked, ok_is, served_with, step_of, told_on}
@@ -29,17 +29,17 @@ Step = World × List Sent
 abbrev Tellings : Event → Rings → Rings → List (ℕ × Text) → Type 0
 Tellings e old new outs = (s : ℕ) (r : Ring) → get new s ≡ Some r → IsTold (opens e s) (texts_to s outs) (get old s) r
 
-abbrev Openings : Event → Kept → Rings → Type 0
+abbrev Openings : Event → Guarded → Rings → Type 0
 Openings e old new = (r : Step) → step (served_by old.server.schema) e old.server.world ≡ Ok r → AreOpen old.rings old.server.world → AreOpen new r.0
 
-kept_on : (e : Event) (old new : Kept) (outs : List (ℕ × Text)) → IsKept old → Takes e old new outs → Tellings e old.rings new.rings outs → Openings e old new.rings → IsKept new
+kept_on : (e : Event) (old new : Guarded) (outs : List (ℕ × Text)) → IsGuarded old → Takes e old new outs → Tellings e old.rings new.rings outs → Openings e old new.rings → IsGuarded new
 kept_on e old new outs kept takes told opens_so =
     let s = step_of e old.server new.server outs takes.0 in
     let r : Step = s.0 in
     let went : step (served_by old.server.schema) e old.server.world ≡ Ok r = s.1 in
     let is : served_with e old.server r ≡ (new.server, outs) = s.2 in
     let given : ℕ → List Out = given_after e r.1 kept.0.0 in
-    let mid : Kept = record { server = (served_with e old.server r).0; base = old.base; events = old.events ++ e ∷ []; rings = new.rings } in
+    let mid : Guarded = record { server = (served_with e old.server r).0; base = old.base; events = old.events ++ e ∷ []; rings = new.rings } in
     let history : IsHistory (served_by old.server.schema) old.base (old.events ++ e ∷ []) r.0 given = history_on (served_by old.server.schema) old.base old.server.world old.events kept.0.0 e r kept.0.1 went in
     let tells : AreTold new.rings given = told_on old.rings new.rings kept.0.0 e r.1 kept.0.2 (subst (Tellings e old.rings new.rings) (sym (ap (λ (p : Server × List (ℕ × List ℕ)). p.1) is)) told) in
     let whole = kept.2 in
@@ -47,8 +47,8 @@ kept_on e old new outs kept takes told opens_so =
     let start : World = (new_server whole.0 whole.1 old.server.schema).world in
     let all : IsHistory (served_by old.server.schema) start (whole.2 ++ e ∷ []) r.0 all_given = history_on (served_by old.server.schema) start old.server.world whole.2 whole.3 e r whole.4 went in
     let sent : AreSent new.rings all_given = sent_on old.rings new.rings whole.3 e r.1 whole.5 (subst (Tellings e old.rings new.rings) (sym (ap (λ (p : Server × List (ℕ × List ℕ)). p.1) is)) told) in
-    let done : IsKept mid = ((given, history, tells), opens_so r went kept.1, (whole.0, whole.1, whole.2 ++ e ∷ [], all_given, all, sent)) in
-    subst IsKept (λ i. let k : Kept = record { server = (is i).0; base = sym takes.2 i; events = sym takes.1 i; rings = new.rings } in k) done
+    let done : IsGuarded mid = ((given, history, tells), opens_so r went kept.1, (whole.0, whole.1, whole.2 ++ e ∷ [], all_given, all, sent)) in
+    subst IsGuarded (λ i. let k : Guarded = record { server = (is i).0; base = sym takes.2 i; events = sym takes.1 i; rings = new.rings } in k) done
 
 -- ---- a ring that was sent this beside
 
@@ -66,20 +66,20 @@ grown true outs (Some a) p k = (k.0, k.1, ap (λ ts. ts ++ option_to_list k.0.he
 same_told : (e : Event) (rings : Rings) → ((s : ℕ) → opens e s ≡ false) → Tellings e rings rings []
 same_told e rings not_open s r there = subst (λ b. IsTold b [] (get rings s) r) (sym (not_open s)) (r, there, sym (append-nil (texts r)))
 
-module _ (old new : Kept) (kept : IsKept old) where
-  pub submitted_kept : (s : ℕ) (d : Data) (fresh : List Uuid) (now : ℕ) → Takes (submitted s d fresh now) old new [] → new.rings ≡ old.rings → IsKept new
+module _ (old new : Guarded) (kept : IsGuarded old) where
+  pub submitted_kept : (s : ℕ) (d : Data) (fresh : List Uuid) (now : ℕ) → Takes (submitted s d fresh now) old new [] → new.rings ≡ old.rings → IsGuarded new
   submitted_kept s d fresh now takes same =
       let e : Event = submitted s d fresh now in
       kept_on e old new [] kept takes (subst (λ (m : Rings). Tellings e old.rings m []) (sym same) (same_told e old.rings (λ t. refl)))
       (subst (λ (m : Rings). Openings e old m) (sym same) (λ r went opens_so. open_submitted (served_by old.server.schema) old.rings old.server.world s d fresh now r went opens_so))
 
-  pub ticked_kept : (now : ℕ) → Takes (ticked now) old new [] → new.rings ≡ old.rings → IsKept new
+  pub ticked_kept : (now : ℕ) → Takes (ticked now) old new [] → new.rings ≡ old.rings → IsGuarded new
   ticked_kept now takes same =
       let e : Event = ticked now in
       kept_on e old new [] kept takes (subst (λ (m : Rings). Tellings e old.rings m []) (sym same) (same_told e old.rings (λ t. refl)))
       (subst (λ (m : Rings). Openings e old m) (sym same) (λ r went opens_so. open_ticked (served_by old.server.schema) old.rings old.server.world now r went opens_so))
 
-  pub closed_kept : (s : ℕ) → Takes (closed s) old new [] → new.rings ≡ remove old.rings s → IsKept new
+  pub closed_kept : (s : ℕ) → Takes (closed s) old new [] → new.rings ≡ remove old.rings s → IsGuarded new
   closed_kept s takes same =
       let e : Event = closed s in
       kept_on e old new [] kept takes (subst (λ (m : Rings). Tellings e old.rings m []) (sym same) told)
@@ -92,7 +92,7 @@ module _ (old new : Kept) (kept : IsKept old) where
       told : Tellings (closed s) old.rings (remove old.rings s) []
       told t r is = (r, there t r (eq_by_cmp nat_cmp t s) (sym (get-remove old.rings s t) ∙ is), sym (append-nil (texts r)))
 
-  pub opened_kept : (s : ℕ) (x : Ring) → texts x ≡ [] → Takes (opened s) old new [] → new.rings ≡ insert old.rings s x → IsKept new
+  pub opened_kept : (s : ℕ) (x : Ring) → texts x ≡ [] → Takes (opened s) old new [] → new.rings ≡ insert old.rings s x → IsGuarded new
   opened_kept s x nothing takes same =
       let e : Event = opened s in
       kept_on e old new [] kept takes (subst (λ (m : Rings). Tellings e old.rings m []) (sym same) told)
@@ -110,7 +110,7 @@ module _ (old new : Kept) (kept : IsKept old) where
       told : Tellings (opened s) old.rings (insert old.rings s x) []
       told t r is = by t r (s == t) (eq_by_cmp nat_cmp t s) refl refl (sym (get-insert old.rings s x t) ∙ is)
 
-  pub round_kept : (ss : List ℕ) (outs : List (ℕ × Text)) → Takes (round ss) old new outs → ((s : ℕ) → Grows (texts_to s outs) (get old.rings s) (get new.rings s)) → IsKept new
+  pub round_kept : (ss : List ℕ) (outs : List (ℕ × Text)) → Takes (round ss) old new outs → ((s : ℕ) → Grows (texts_to s outs) (get old.rings s) (get new.rings s)) → IsGuarded new
   round_kept ss outs takes grows =
       kept_on (round ss) old new outs kept takes told (λ r went opens_so s. same s (get old.rings s) (get new.rings s) (grows s) ∙ open_round (served_by old.server.schema) old.rings old.server.world ss r went opens_so s)
     where
@@ -147,7 +147,7 @@ most_texts ss s t outs is q =
 pub new_is : (v : Server) (word most : ℕ) (s : Schema) → v ≡ new_server word most s → IsNew v
 new_is v word most s e = (word, most, e ∙ ap (new_server word most) (sym (ap (λ (x : Server). x.schema) e)))
 
-pub begins : (s : Server) → IsNew s → IsKept (record { server = s; base = s.world; events = []; rings = empty })
+pub begins : (s : Server) → IsNew s → IsGuarded (record { server = s; base = s.world; events = []; rings = empty })
 begins s new =
     let none : s.world.sessions ≡ empty = ap (λ (v : Server). v.world.sessions) new.2 in
     let start : s.world ≡ (new_server new.0 new.1 s.schema).world = ap (λ (v : Server). v.world) new.2 in (
@@ -156,7 +156,7 @@ begins s new =
       (new.0, new.1, [], λ t. [], subst (λ (w : World). IsHistory (served_by s.schema) w [] s.world (λ t. [])) start (history_begins (served_by s.schema) s.world), λ t r is. absurd (true≢false (sym (ap is_some (sym (get-empty t) ∙ is))))),
     )
 
-pub settles : (k : Kept) → IsKept k → IsKept (record k { base = k.server.world; events = [] })
+pub settles : (k : Guarded) → IsGuarded k → IsGuarded (record k { base = k.server.world; events = [] })
 settles k kept = ((λ t. [], history_begins (served_by k.server.schema) k.server.world, λ t r is. ends_nothing (texts r)), kept.1, kept.2)
 
 -- ---- numbers that are still to be given
@@ -194,11 +194,11 @@ taken_out m n x none = same_map _ _ (λ q. get-remove (insert m n x) n q ∙ ap 
     by q false e = refl
 
 -- nothing is sent, and no event is taken
-pub grown_kept : (old new : Kept) → IsKept old → new.server ≡ old.server → new.base ≡ old.base → new.events ≡ old.events → ((s : ℕ) → Grows [] (get old.rings s) (get new.rings s)) → IsKept new
+pub grown_kept : (old new : Guarded) → IsGuarded old → new.server ≡ old.server → new.base ≡ old.base → new.events ≡ old.events → ((s : ℕ) → Grows [] (get old.rings s) (get new.rings s)) → IsGuarded new
 grown_kept old new kept server base events grows =
     let whole = kept.2 in
-    let done : IsKept (record old { rings = new.rings }) = ((kept.0.0, kept.0.1, told), λ s. same (get old.rings s) (get new.rings s) (grows s) ∙ kept.1 s, (whole.0, whole.1, whole.2, whole.3, whole.4, sent)) in
-    subst IsKept (λ i. let k : Kept = record { server = sym server i; base = sym base i; events = sym events i; rings = new.rings } in k) done
+    let done : IsGuarded (record old { rings = new.rings }) = ((kept.0.0, kept.0.1, told), λ s. same (get old.rings s) (get new.rings s) (grows s) ∙ kept.1 s, (whole.0, whole.1, whole.2, whole.3, whole.4, sent)) in
+    subst IsGuarded (λ i. let k : Guarded = record { server = sym server i; base = sym base i; events = sym events i; rings = new.rings } in k) done
   where
     same : (o p : Option Ring) → Grows [] o p → is_some p ≡ is_some o
     same None p e = ap is_some e
@@ -224,7 +224,7 @@ grown_kept old new kept server base events grows =
     told s r there = by s r (get old.rings s) (get new.rings s) refl (grows s) there
 
 -- a flush alone
-pub flushed_kept : (k : Kept) (m : Rings) → IsKept k → ((s : ℕ) → IsFlushedAt (get k.rings s) (get m s)) → IsKept (record k { rings = m })
+pub flushed_kept : (k : Guarded) (m : Rings) → IsGuarded k → ((s : ℕ) → IsFlushedAt (get k.rings s) (get m s)) → IsGuarded (record k { rings = m })
 flushed_kept k m kept flushed = grown_kept k (record k { rings = m }) kept refl refl refl (λ s. grows (get k.rings s) (get m s) (flushed s))
   where
     grows : (o p : Option Ring) → IsFlushedAt o p → Grows [] o p
@@ -232,10 +232,10 @@ flushed_kept k m kept flushed = grown_kept k (record k { rings = m }) kept refl 
     grows (Some a) p e = (e.0, e.1, flushed_texts a e.0 e.2 ∙ sym (append-nil (texts a)))
 
 -- a flush alone, which takes no event
-pub flushed_state : (k : Kept) (m : Rings) (v : Server) (count : ℕ) → v ≡ k.server → ((s : ℕ) → IsFlushedAt (get k.rings s) (get m s)) → IsKept k → AreUnused k.rings k.server.opened → count ≡ counted k.events
-    → IsKept (record k { server = v; rings = m }) × AreUnused m v.opened × (count ≡ counted k.events)
+pub flushed_state : (k : Guarded) (m : Rings) (v : Server) (count : ℕ) → v ≡ k.server → ((s : ℕ) → IsFlushedAt (get k.rings s) (get m s)) → IsGuarded k → AreUnused k.rings k.server.opened → count ≡ counted k.events
+    → IsGuarded (record k { server = v; rings = m }) × AreUnused m v.opened × (count ≡ counted k.events)
 flushed_state k m v count same flushed kept unused counts =
-    subst (λ (u : Server). IsKept (record k { server = u; rings = m }) × AreUnused m u.opened × (count ≡ counted k.events)) (sym same) (flushed_kept k m kept flushed, unused_flushed k.rings m k.server.opened flushed unused, counts)
+    subst (λ (u : Server). IsGuarded (record k { server = u; rings = m }) × AreUnused m u.opened × (count ≡ counted k.events)) (sym same) (flushed_kept k m kept flushed, unused_flushed k.rings m k.server.opened flushed unused, counts)
 
 -- ---- numbers
 

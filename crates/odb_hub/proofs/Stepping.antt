@@ -8,7 +8,7 @@ use Rattle.serde_json.specs.Data.{Data}
 use Rattle.odb_atoms.specs.FinMap.{get, insert, len, remove}
 use Rattle.odb_atoms.specs.Uuid.{Uuid}
 use Rattle.odb_rpc.specs.Message.{call_of, has_reply}
-use Rattle.odb_hub.specs.Kept.{AreOpen, AreSent, AreTold, EndsWith, text_of}
+use Rattle.odb_hub.specs.Guarded.{AreOpen, AreSent, AreTold, EndsWith, text_of}
 use Rattle.odb_hub.specs.Rings.{Ring, Rings, Text, texts, texts_to}
 use Rattle.odb_hub.proofs.Takings.{texts_printed}
 use Rattle.odb_service.proofs.OnlyPosts.{Rest, takes_each}

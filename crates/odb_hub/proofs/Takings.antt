@@ -3,7 +3,7 @@ use Rattle.std.proofs.Common.{◌≡◌, ℕ, ◌+◌, ◌==◌, ◌≤◌, ◌|
 use Rattle.std.proofs.lemmas.List.{length-append}
 use borrow.Author.Tests.{eqb-true}
 use Rattle.odb_atoms.specs.FinMap.{get}
-use Rattle.odb_hub.specs.Kept.{is_in, text_of}
+use Rattle.odb_hub.specs.Guarded.{is_in, text_of}
 use Rattle.odb_hub.specs.Rings.{texts_to}
 use Rattle.odb_service.specs.Run.{Sent, once, sent, sent_to, take_each, take_of}
 use Rattle.odb_service.specs.Server.{printed}

@@ -8,7 +8,7 @@ use Rattle.std.specs.List.{concat}
 use Rattle.std.specs.declared.option.Option.{Option}
 use Rattle.std.specs.Io.KnownBytes.{Appends, Keeps}
 use Rattle.json.specs.Print.{escape_byte}
-use Rattle.odb_hub.specs.Outbox.{AsksBy, Moves, MovesSome, Outbox, Sends, Takes, Writes}
+use Rattle.odb_hub.specs.Outbox.{ProbesBy, Moves, MovesSome, Outbox, Sends, Takes, Writes}
 use Rattle.odb_hub.specs.Probe.{probe_text}
 use Rattle.odb_hub.specs.Rings.{Name, Text}
 use Rattle.odb_sessions.specs.Represented.Out.{text_of_out}
@@ -149,7 +149,7 @@ sends_some old name taken buffer sent rest x y is p =
     subst (λ o. MovesSome o (record { name = name; taken = taken; left = sent ++ rest }) x y) is (p.0, p.1, ([], refl, sym (append-nil taken), whole, p.3))
 
 -- the request comes after all that is left
-pub asked : (old : Outbox) (name : Name) (taken : List Text) (buffer rest new probe : List ℕ) → record { name = name; taken = taken; left = buffer ++ rest } ≡ old → new ≡ buffer ++ probe → probe ≡ probe_text → rest ≡ [] → AsksBy true old (record { name = name; taken = taken; left = new ++ rest })
+pub asked : (old : Outbox) (name : Name) (taken : List Text) (buffer rest new probe : List ℕ) → record { name = name; taken = taken; left = buffer ++ rest } ≡ old → new ≡ buffer ++ probe → probe ≡ probe_text → rest ≡ [] → ProbesBy true old (record { name = name; taken = taken; left = new ++ rest })
 asked old name taken buffer rest new probe is put same none =
     let left : new ++ rest ≡ (buffer ++ rest) ++ probe_text = ap (λ l. new ++ l) none ∙ append-nil new ∙ put ∙ ap (λ l. buffer ++ l) same ∙ ap (λ l. l ++ probe_text) (sym (append-nil buffer) ∙ ap (λ l. buffer ++ l) (sym none)) in
-    subst (λ o. AsksBy true o (record { name = name; taken = taken; left = new ++ rest })) is (λ i. record { name = name; taken = taken; left = left i })
+    subst (λ o. ProbesBy true o (record { name = name; taken = taken; left = new ++ rest })) is (λ i. record { name = name; taken = taken; left = left i })

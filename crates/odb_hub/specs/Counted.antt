@@ -4,7 +4,7 @@ use Rattle.std.specs.Coded.{Coded, code_by, coded×, coded_ℕ}
 use Rattle.odb_atoms.specs.FinMap.{remove}
 use Rattle.odb_service.specs.Run.{Event, closed, gone, opened, round, submitted, ticked}
 use Rattle.odb_service.specs.Server.{serve}
-use Rattle.odb_hub.specs.Kept.{Kept, Takes, kept_code}
+use Rattle.odb_hub.specs.Guarded.{Guarded, Takes, guarded_code}
 
 -- a session's right to submit, and how many submits it was answered
 pub record Seat : Type 0 where
@@ -14,14 +14,14 @@ pub record Seat : Type 0 where
 abbrev pub seat_code : Coded Seat
 seat_code = code_by (ℕ × ℕ) (coded× coded_ℕ coded_ℕ) (λ s. (s.session, s.answered)) (λ p. record { session = p.0; answered = p.1 }) (λ _. refl)
 
--- the state, how many submits were settled away, and how many all seats together were answered, also those that parted
+-- the state, how many submits came before the base, and how many all seats together were answered, also those that left
 pub record Counted : Type 0 where
-  pub kept : Kept
-  pub settled : ℕ
+  pub guarded : Guarded
+  pub before_base : ℕ
   pub answered : ℕ
 
 abbrev pub counted_code : Coded Counted
-counted_code = code_by (Kept × (ℕ × ℕ)) (coded× kept_code (coded× coded_ℕ coded_ℕ)) (λ c. (c.kept, (c.settled, c.answered))) (λ p. record { kept = p.0; settled = p.1.0; answered = p.1.1 }) (λ _. refl)
+counted_code = code_by (Guarded × (ℕ × ℕ)) (coded× guarded_code (coded× coded_ℕ coded_ℕ)) (λ c. (c.guarded, (c.before_base, c.answered))) (λ p. record { guarded = p.0; before_base = p.1.0; answered = p.1.1 }) (λ _. refl)
 
 abbrev pub submits_in : Event → ℕ
 submits_in (opened s) = 0
@@ -35,14 +35,14 @@ abbrev pub submits : List Event → ℕ
 submits [] = 0
 submits (e ∷ es) = submits_in e + submits es
 
--- the submits in the journal, with those settled away, are as many as all seats were answered
+-- the submits in the journal, with those before the base, are as many as all seats were answered
 abbrev pub IsCounted : Counted → Type 0
-IsCounted c = c.answered ≡ c.settled + submits c.kept.events
+IsCounted c = c.answered ≡ c.before_base + submits c.guarded.events
 
--- nobody was answered anything, and nothing was settled
+-- nobody was answered anything, and the base stayed
 abbrev pub SameCount : Counted → Counted → Type 0
-SameCount old new = (new.answered ≡ old.answered) × (new.settled ≡ old.settled)
+SameCount old new = (new.answered ≡ old.answered) × (new.before_base ≡ old.before_base)
 
 -- the session is closed; or nothing changes, since none of that number is open
-abbrev pub Closes : ℕ → Kept → Kept → Type 0
+abbrev pub Closes : ℕ → Guarded → Guarded → Type 0
 Closes s old new = (Takes (closed s) old new [] × (new.rings ≡ remove old.rings s)) ⊎ ((new ≡ old) × (serve (closed s) old.server ≡ Err gone))

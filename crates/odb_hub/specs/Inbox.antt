@@ -9,7 +9,7 @@ use Rattle.odb_wire.specs.Message.{method_of}
 use Rattle.odb_wire.specs.Stream.{messages}
 use Rattle.odb_core.specs.declared.refused.EventRefusal.{EventRefusal}
 use Rattle.odb_hub.specs.Batch.{Submits}
-use Rattle.odb_hub.specs.Kept.{Kept}
+use Rattle.odb_hub.specs.Guarded.{Guarded}
 
 -- a request or a notification
 abbrev pub is_asked : Data → Bool
@@ -64,7 +64,7 @@ abbrev pub MovesOn : Inbox → Inbox → Type 0
 MovesOn old new = (front : List Pending) × (old.pending ≡ front ++ new.pending) × (new ≡ record old { submitted = old.submitted ++ messages_of front; pending = new.pending })
 
 -- these were submitted at a moment for the session, up to what is left, of which the first is refused for the reason of the result; then come rounds of the session alone
-abbrev pub SubmitsFrom : {A : Type 0} → Result A EventRefusal → ℕ → ℕ → Inbox → Inbox → Kept → Kept → Type 0
+abbrev pub SubmitsFrom : {A : Type 0} → Result A EventRefusal → ℕ → ℕ → Inbox → Inbox → Guarded → Guarded → Type 0
 SubmitsFrom result session now old new before after = Submits result session (events_at session now old.pending) (events_at session now new.pending) before after
 
 -- of what was pending this, the first, went on elsewhere
@@ -72,6 +72,6 @@ abbrev pub HandsOn : Pending → Inbox → Inbox → Type 0
 HandsOn p old new = (old.pending ≡ p ∷ new.pending) × (new ≡ record old { submitted = old.submitted ++ p.message ∷ []; pending = new.pending })
 
 -- of the first `most` that were pending these were submitted, up to what is left of them, as `SubmitsFrom` says; the others stay
-abbrev pub SubmitsRun : {A : Type 0} → Result A EventRefusal → ℕ → ℕ → ℕ → Inbox → Inbox → Kept → Kept → Type 0
+abbrev pub SubmitsRun : {A : Type 0} → Result A EventRefusal → ℕ → ℕ → ℕ → Inbox → Inbox → Guarded → Guarded → Type 0
 SubmitsRun result session now most old new before after =
     (left : List Pending) × (new.pending ≡ left ++ drop most old.pending) × Submits result session (events_at session now (take most old.pending)) (events_at session now left) before after

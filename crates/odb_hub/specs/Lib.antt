@@ -2,7 +2,7 @@ pub mod Batch
 pub mod Counted
 pub mod EventCode
 pub mod Inbox
-pub mod Kept
+pub mod Guarded
 pub mod Outbox
 pub mod Own
 pub mod GroupRounds

@@ -40,6 +40,6 @@ abbrev pub MovesSome : Outbox → Outbox → Option (List ℕ) → Option (List 
 MovesSome old new contents filled = (front : List ℕ) × (front ≢ []) × Writes front old new contents filled
 
 -- the peer is to be asked after all that is left; or nothing happens, since something is left that a request may not come after
-abbrev pub AsksBy : Bool → Outbox → Outbox → Type 0
-AsksBy true old new = new ≡ record { name = old.name; taken = old.taken; left = old.left ++ probe_text }
-AsksBy false old new = (old.left ≢ []) × (new ≡ old)
+abbrev pub ProbesBy : Bool → Outbox → Outbox → Type 0
+ProbesBy true old new = new ≡ record { name = old.name; taken = old.taken; left = old.left ++ probe_text }
+ProbesBy false old new = (old.left ≢ []) × (new ≡ old)

@@ -2,8 +2,8 @@
 ghost use Rattle.std.specs.Prelude.{◌≡◌};
 ghost use Rattle.odb_waking.specs.Loop as loops;
 
-use crate::calls::Calls;
-use odb_waking::GiverPlace;
+use crate::wakes::Wakes;
+use odb_waking::GiverStage;
 use std::sync::Arc;
 use std::sync::atomic::{AtomicU64, Ordering};
 
@@ -12,10 +12,10 @@ use std::sync::atomic::{AtomicU64, Ordering};
 /// serves the session looks in its turn is said nowhere.
 #[derive(Drop)]
 pub struct Bell {
-    calls: Arc<Calls>,
-    place: usize,
+    wakes: Arc<Wakes>,
+    bit: usize,
     holds: AtomicU64,
-    told: AtomicU64,
+    given_at: AtomicU64,
     /// How often memory was refused for what the session is owed since it was given something, and when first.
     refusals: AtomicU64,
     refused: AtomicU64,
@@ -32,13 +32,13 @@ const REFUSALS: u64 = 16;
 const PATIENCE: u64 = 1_000;
 
 impl Bell {
-    /// Makes the bell of a session that has this place among those of a thread.
-    pub fn new(calls: Arc<Calls>, place: usize) -> Bell {
+    /// Makes the bell of a session that has this bit among those of a thread.
+    pub fn new(wakes: Arc<Wakes>, bit: usize) -> Bell {
         Bell {
-            calls,
-            place,
+            wakes,
+            bit,
             holds: AtomicU64::new(0),
-            told: AtomicU64::new(0),
+            given_at: AtomicU64::new(0),
             refusals: AtomicU64::new(0),
             refused: AtomicU64::new(0),
             given_up: AtomicU64::new(0),
@@ -47,28 +47,28 @@ impl Bell {
 
     /// Calls the thread that serves the session, since something was given to it. Whoever gave it wakes the thread, once the
     /// lock is free.
-    pub(crate) fn ring(&self, place: GiverPlace)
-        requires { place ≡ loops.calls }
+    pub(crate) fn ring(&self, stage: GiverStage)
+        requires { stage ≡ loops.calls }
     {
-        self.calls.call(self.place, place);
+        self.wakes.call(self.bit, stage);
     }
 
     /// Returns whether the thread that serves the session was called since it last heard that.
     pub fn is_called(&self) -> bool {
-        self.calls.is_called(self.place)
+        self.wakes.is_called(self.bit)
     }
 
     /// Remembers the moment, in milliseconds, at which the session is given something.
-    pub(crate) fn note(&self, moment: u64) {
-        self.told.store(moment, Ordering::SeqCst);
+    pub(crate) fn set_given_at(&self, moment: u64) {
+        self.given_at.store(moment, Ordering::SeqCst);
         if self.refusals.load(Ordering::SeqCst) != 0 {
             self.refusals.store(0, Ordering::SeqCst);
         }
     }
 
-    /// Remembers that memory was refused at this moment, in milliseconds, for what the session is owed. Where that goes on
+    /// Records that memory was refused at this moment, in milliseconds, for what the session is owed. Where that goes on
     /// for a second the session is given up, and the thread that serves it is called.
-    pub(crate) fn note_refusal(&self, moment: u64) {
+    pub(crate) fn record_refusal(&self, moment: u64) {
         let before = self.refusals.fetch_add(1, Ordering::SeqCst);
         if before == 0 {
             self.refused.store(moment, Ordering::SeqCst);
@@ -76,7 +76,7 @@ impl Bell {
         let long = moment.saturating_sub(self.refused.load(Ordering::SeqCst));
         if before >= REFUSALS && long >= PATIENCE {
             self.given_up.store(1, Ordering::SeqCst);
-            self.ring(GiverPlace::of_a_call());
+            self.ring(GiverStage::of_a_call());
         }
     }
 
@@ -87,35 +87,35 @@ impl Bell {
 
     /// Returns whether the session was given nothing in the last milliseconds before this moment.
     pub(crate) fn has_rested(&self, moment: u64) -> bool {
-        moment.saturating_sub(self.told.load(Ordering::SeqCst)) >= REST
+        moment.saturating_sub(self.given_at.load(Ordering::SeqCst)) >= REST
     }
 
     /// Says that a message is held back, since the ring has no room for it.
-    pub(crate) fn hold(&self, place: &mut GiverPlace)
-        requires { place.old ≡ loops.refused }
-        ensures { place.new ≡ loops.marked }
+    pub(crate) fn hold(&self, stage: &mut GiverStage)
+        requires { stage.old ≡ loops.refused }
+        ensures { stage.new ≡ loops.marked }
     {
         self.holds.store(1, Ordering::SeqCst);
-        place.marked();
+        stage.marked();
     }
 
     /// Says that nothing is held back, and calls the thread.
-    pub(crate) fn let_go(&self, place: GiverPlace)
-        requires { place ≡ loops.sent }
+    pub(crate) fn let_go(&self, stage: GiverStage)
+        requires { stage ≡ loops.sent }
     {
-        let mut place = place;
-        self.say_that_none_is_held(&mut place);
-        self.ring(place);
+        let mut stage = stage;
+        self.say_that_none_is_held(&mut stage);
+        self.ring(stage);
     }
 
-    fn say_that_none_is_held(&self, place: &mut GiverPlace)
-        requires { place.old ≡ loops.sent }
-        ensures { place.new ≡ loops.calls }
+    fn say_that_none_is_held(&self, stage: &mut GiverStage)
+        requires { stage.old ≡ loops.sent }
+        ensures { stage.new ≡ loops.calls }
     {
         if self.is_held_back() {
             self.holds.store(0, Ordering::SeqCst);
         }
-        place.let_go();
+        stage.let_go();
     }
 
     /// Returns whether a message is held back.

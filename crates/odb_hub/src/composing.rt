@@ -36,13 +36,31 @@ pub(crate) fn round_by<R: Threads + Sync, G: Gate + Sync>(
     ensures err { OnErr result (core.new ≡ core.old) }
 {
     let ComposedRound { prepared, first } = prepare(rt, core, ready, workers, gate)?;
-    core.keep(first);
+    core.add_first_text(first);
     Ok(core.accept(prepared))
+}
+
+/// Gives one session its next message, if it has one, as `round_by` does, and has it forgotten by the core where it is found to be
+/// owed nothing then. It costs what `next_of` and `Core::shorten_owed` do.
+pub(crate) fn round_of<R: Threads + Sync>(
+    rt: &R,
+    alloc: Global,
+    core: &mut Core,
+    session: SessionId,
+    workers: Workers,
+) -> Result<Vec<Out>, AllocError>
+    ensures ok { IfOk result (λ outs. serve (round (session ∷ [])) core.old
+        ≡ Ok (core.new, map sent_in outs.items)) }
+    ensures err { OnErr result (core.new ≡ core.old) }
+{
+    let outs = next_of(rt, alloc, core, session, workers)?;
+    core.shorten_owed(session, 1);
+    Ok(outs)
 }
 
 /// Gives one session its next message, if it has one, as `round_by` does; a text that was finished when it was queued goes
 /// out without a plan. It costs what `Core::take_finished` does, and else what `round_by` does.
-pub(crate) fn round_of<R: Threads + Sync>(
+fn next_of<R: Threads + Sync>(
     rt: &R,
     alloc: Global,
     core: &mut Core,

@@ -1,16 +1,16 @@
 //! What the lock guards, and the ledger of what its seats were answered.
-ghost use Rattle.std.specs.Prelude.{◌≡◌, ◌+◌, ◌-◌, ◌⊎◌, ℕ, [], length, true, false, IfErr, IfOk, OnErr, OnOk};
+ghost use Rattle.std.specs.Prelude.{◌≡◌, ◌+◌, ◌-◌, ◌≤◌, ◌⊎◌, ℕ, [], length, true, false, IfErr, IfOk, IfSome, OnErr, OnOk};
 ghost use Rattle.odb_core.specs.declared.refused.EventRefusal.TheVariants as refused;
 ghost use Rattle.odb_hub.specs.Batch as batch;
 ghost use Rattle.odb_service.specs.Run.{opened, ticked};
 
 use crate::bell::Bell;
 use crate::failure::TransactionFailure;
+use crate::lock_hold::LockHold;
 use crate::mailbox::Mailbox;
 use crate::seat::Seat;
 use crate::state::HubState;
 use crate::submission::Submission;
-use crate::turn::Turn;
 use odb_core::{Core, EventRefusal, SessionId};
 use odb_par::{Gate, Workers};
 use std::alloc::{AllocError, Global};
@@ -51,13 +51,13 @@ pub struct Round {
 }
 
 /// A hub's state, and the ledger of its seats. What is always so (`IsCounted`): the submits in the journal, with those
-/// settled away, are as many as all seats together were answered, also those that parted. The ledger takes no memory.
+/// before the base, are as many as all seats together were answered, also those that left. The ledger takes no memory.
 #[derive(Drop)]
 pub struct Counted<L: Ledger> {
     state: HubState,
     book: Book<L>,
-    settled: Snapshot<Book<L>>,
-    parted: Share<L>,
+    before_base: Snapshot<Book<L>>,
+    unseated: Share<L>,
     seats: u64,
 }
 
@@ -70,9 +70,9 @@ impl<L: Ledger> Model for Counted<L> {
 
     ghost coded = { model.counted_code };
 
-    ghost view = { λ c. record { kept = c.state; settled = c.settled.value.total; answered = c.book.total } };
+    ghost view = { λ c. record { guarded = c.state; before_base = c.before_base.value.total; answered = c.book.total } };
 
-    ghost invariant = { λ c. IsCounted (record { kept = c.state; settled = c.settled.value.total; answered = c.book.total }) × (c.seats < c.parted.parts) };
+    ghost invariant = { λ c. IsCounted (record { guarded = c.state; before_base = c.before_base.value.total; answered = c.book.total }) × (c.seats < c.unseated.parts) };
 }
 
 impl<L: Ledger> Counted<L> {
@@ -82,7 +82,7 @@ impl<L: Ledger> Counted<L> {
     ghost use Rattle.odb_core.specs.Represented.Reason.{IsReason};
     ghost use Rattle.odb_hub.specs.Batch.{IsSome, IsTurn, Submits, is_sooner};
     ghost use Rattle.odb_hub.specs.Counted.{Closes, IsCounted, SameCount, submits};
-    ghost use Rattle.odb_hub.specs.Kept.{IsNew, IsQuiet, Takes, counted};
+    ghost use Rattle.odb_hub.specs.Guarded.{IsNew, IsQuiet, Takes, counted};
     ghost use Rattle.odb_hub.specs.GroupRounds.{TakesRound};
     ghost use Rattle.odb_hub.specs.Own.{GivesOwn, GivesTo, IsGiven};
     ghost use Rattle.odb_hub.specs.Represented.Mailbox.{name_of, taken};
@@ -95,21 +95,21 @@ impl<L: Ledger> Counted<L> {
         requires core { IsNew core }
         requires ledger { (blank.name ≡ L.name) × (blank.parts ≡ L.parts) }
         requires parts { blank.parts ≡ seats + 1 }
-        ensures { result ≡ record { kept = record { server = core; base = core.world; events = []; rings = empty }; settled = 0; answered = 0 } }
+        ensures { result ≡ record { guarded = record { server = core; base = core.world; events = []; rings = empty }; before_base = 0; answered = 0 } }
     {
-        let (book, parted) = blank.open::<L>();
+        let (book, unseated) = blank.open::<L>();
         Counted {
             state: HubState::new(alloc, core, workers),
-            settled: Snapshot::of(&book),
+            before_base: Snapshot::of(&book),
             book,
-            parted,
+            unseated,
             seats,
         }
     }
 
     /// Returns the hub's state, and what is so of the ledger whenever the lock is free. O(1).
     pub fn state(&self) -> &HubState
-        ensures kept { result.now ≡ self.now.kept }
+        ensures guarded { result.now ≡ self.now.guarded }
         ensures counted { IsCounted self.now }
     {
         &self.state
@@ -118,19 +118,19 @@ impl<L: Ledger> Counted<L> {
     /// Opens a session, with a seat that was answered nothing. It is refused as [`HubState::open`] is, and with `Memory`
     /// where all seats are given. O(log n).
     pub fn open(&mut self, bell: Bell) -> Result<(Seat<L>, Mailbox), EventRefusal>
-        ensures ok { IfOk result (λ ends. Takes (opened ends.0.session) self.old.kept self.new.kept []) }
-        ensures ring { IfOk result (λ ends. self.new.kept.rings ≡ insert self.old.kept.rings ends.0.session (fresh_ring (name_of ends.1))) }
+        ensures ok { IfOk result (λ ends. Takes (opened ends.0.session) self.old.guarded self.new.guarded []) }
+        ensures ring { IfOk result (λ ends. self.new.guarded.rings ≡ insert self.old.guarded.rings ends.0.session (fresh_ring (name_of ends.1))) }
         ensures mailbox { IfOk result (λ ends. taken ends.1 ≡ []) }
         ensures seat { IfOk result (λ ends. ends.0.answered ≡ 0) }
         ensures count { OnOk result (SameCount self.old self.new) }
-        ensures why { IfErr result (λ why. (why ≡ refused.Memory) ⊎ IsReason why (serve (opened self.old.kept.server.opened) self.old.kept.server)) }
+        ensures why { IfErr result (λ why. (why ≡ refused.Memory) ⊎ IsReason why (serve (opened self.old.guarded.server.opened) self.old.guarded.server)) }
         ensures err { OnErr result (self.new ≡ self.old) }
     {
         if self.seats == 0 {
             return Err(EventRefusal::Memory);
         }
         let (session, mailbox) = self.state.open(bell)?;
-        let share = self.parted.split_off(1, 0);
+        let share = self.unseated.split_off(1, 0);
         self.seats -= 1;
         Ok((Seat { session, share }, mailbox))
     }
@@ -145,15 +145,15 @@ impl<L: Ledger> Counted<L> {
         batch: &mut Vec<Submission>,
         now: u64,
     ) -> BatchOutcome
-        ensures submits { Submits result.owes seat.old.session (events_of seat.old.session now batch.old.items) (events_of seat.old.session now batch.new.items) self.old.kept self.new.kept }
+        ensures submits { Submits result.owes seat.old.session (events_of seat.old.session now batch.old.items) (events_of seat.old.session now batch.new.items) self.old.guarded self.new.guarded }
         ensures most { IsTurn (length batch.old.items) (length batch.new.items) }
         ensures some { OnOk result.owes (IsSome (length batch.old.items) (length batch.new.items)) }
-        ensures given { OnOk result.given (IsGiven seat.old.session self.new.kept) }
-        ensures quiet { IfOk result.owes (λ owes. owes ≡ false → IsQuiet self.new.kept.server) }
-        ensures sooner { result.due_sooner ≡ is_sooner (earliest self.new.kept.server.world.waiting) (earliest self.old.kept.server.world.waiting) }
+        ensures given { OnOk result.given (IsGiven seat.old.session self.new.guarded) }
+        ensures quiet { IfOk result.owes (λ owes. owes ≡ false → IsQuiet self.new.guarded.server) }
+        ensures sooner { result.due_sooner ≡ is_sooner (earliest self.new.guarded.server.world.waiting) (earliest self.old.guarded.server.world.waiting) }
         ensures seat { seat.new ≡ record { session = seat.old.session; answered = seat.old.answered + (length batch.old.items - length batch.new.items) } }
         ensures answered { self.new.answered ≡ self.old.answered + (length batch.old.items - length batch.new.items) }
-        ensures settled { self.new.settled ≡ self.old.settled }
+        ensures before_base { self.new.before_base ≡ self.old.before_base }
     {
         let due = self.state.core().next_deadline();
         let before = batch.len();
@@ -178,8 +178,8 @@ impl<L: Ledger> Counted<L> {
         rt: &R,
         session: SessionId,
     ) -> Result<(), AllocError>
-        ensures rounds { GivesOwn session self.old.kept self.new.kept }
-        ensures given { OnOk result (IsGiven session self.new.kept) }
+        ensures rounds { GivesOwn session self.old.guarded self.new.guarded }
+        ensures given { OnOk result (IsGiven session self.new.guarded) }
         ensures count { SameCount self.old self.new }
     {
         self.state.rounds_for(rt, session)
@@ -192,7 +192,7 @@ impl<L: Ledger> Counted<L> {
         from: SessionId,
         now: u64,
     ) -> Option<SessionId>
-        ensures given { GivesTo result self.old.kept self.new.kept }
+        ensures given { GivesTo result self.old.guarded self.new.guarded }
         ensures count { SameCount self.old self.new }
     {
         self.state.give_next(rt, from, now)
@@ -207,8 +207,8 @@ impl<L: Ledger> Counted<L> {
 
     /// Does what [`HubState::tick`] does.
     pub fn tick(&mut self, now: u64) -> Result<(), AllocError>
-        ensures ok { OnOk result (Takes (ticked now) self.old.kept self.new.kept []) }
-        ensures rings { OnOk result (self.new.kept.rings ≡ self.old.kept.rings) }
+        ensures ok { OnOk result (Takes (ticked now) self.old.guarded self.new.guarded []) }
+        ensures rings { OnOk result (self.new.guarded.rings ≡ self.old.guarded.rings) }
         ensures count { OnOk result (SameCount self.old self.new) }
         ensures err { OnErr result (self.new ≡ self.old) }
     {
@@ -216,7 +216,8 @@ impl<L: Ledger> Counted<L> {
     }
 
     /// Gives some sessions their next message, as [`HubState::round`] does. It returns how many there were, and what is owed
-    /// and due then.
+    /// and due then. Where it is the round of all, those that are found to be owed nothing are forgotten; else that is left to
+    /// `forget_resting`, so that the other groups are told first.
     pub fn round<R: Threads + Clock + Sync, G: Gate + Sync>(
         &mut self,
         rt: &R,
@@ -224,42 +225,66 @@ impl<L: Ledger> Counted<L> {
         most: usize,
         gate: &G,
     ) -> Result<Round, AllocError>
-        ensures ok { IfOk result (λ round. TakesRound from most round.given round.next self.old.kept self.new.kept) }
-        ensures quiet { IfOk result (λ round. round.owes ≡ false → IsQuiet self.new.kept.server) }
-        ensures deadline { IfOk result (λ round. round.deadline ≡ earliest self.new.kept.server.world.waiting) }
+        ensures ok { IfOk result (λ round. TakesRound from most round.given round.next self.old.guarded self.new.guarded) }
+        ensures quiet { IfOk result (λ round. round.owes ≡ false → IsQuiet self.new.guarded.server) }
+        ensures deadline { IfOk result (λ round. round.deadline ≡ earliest self.new.guarded.server.world.waiting) }
         ensures count { SameCount self.old self.new }
-        ensures err { OnErr result (self.new.kept.server ≡ self.old.kept.server) }
-        ensures journal { OnErr result ((self.new.kept.base ≡ self.old.kept.base) × (self.new.kept.events ≡ self.old.kept.events)) }
-        ensures flushed { OnErr result ((s : ℕ) → IsFlushedAt (get self.old.kept.rings s) (get self.new.kept.rings s)) }
+        ensures err { OnErr result (self.new.guarded.server ≡ self.old.guarded.server) }
+        ensures journal { OnErr result ((self.new.guarded.base ≡ self.old.guarded.base) × (self.new.guarded.events ≡ self.old.guarded.events)) }
+        ensures flushed { OnErr result ((s : ℕ) → IsFlushedAt (get self.old.guarded.rings s) (get self.new.guarded.rings s)) }
     {
-        let turn = Turn::begin(rt);
+        let hold = LockHold::begin(rt);
         let group = self.state.round(rt, from, most, gate)?;
+        self.state.forget_after(from, &group);
         Ok(Round {
             given: group.given,
             next: group.next,
             more: self.state.has_more(),
             owes: self.state.owes(),
-            took: turn.took(rt),
+            took: hold.took(rt),
             deadline: self.state.core().next_deadline(),
         })
     }
 
-    /// Does what [`HubState::settle`] does. The submits in the journal count as settled.
-    pub fn settle(&mut self) -> u64
-        ensures count { result ≡ counted self.old.kept.events }
-        ensures kept { self.new.kept ≡ record self.old.kept { base = self.old.kept.server.world; events = [] } }
-        ensures settled { self.new.settled ≡ self.old.settled + submits self.old.kept.events }
+    /// Forgets of some sessions those that are found to be owed nothing, as [`HubState::forget_resting`] does. It returns what is
+    /// owed and due then, as `round` does, of which no message was given.
+    pub fn forget_resting<R: Clock>(&mut self, rt: &R, from: SessionId, most: usize) -> Round
+        ensures given { result.given ≡ 0 }
+        ensures next { IfSome result.next (λ next. from + most ≤ next) }
+        ensures quiet { result.owes ≡ false → IsQuiet self.new.guarded.server }
+        ensures deadline { result.deadline ≡ earliest self.new.guarded.server.world.waiting }
+        ensures same { self.new ≡ self.old }
+    {
+        let hold = LockHold::begin(rt);
+        let next = self.state.forget_resting(from, most);
+        let owes = self.state.owes();
+        let deadline = self.state.core().next_deadline();
+        Round {
+            given: 0,
+            next,
+            more: self.state.has_more(),
+            owes,
+            took: hold.took(rt),
+            deadline,
+        }
+    }
+
+    /// Does what [`HubState::begin_journal_anew`] does. The submits in the journal count as those before the base.
+    pub fn begin_journal_anew(&mut self) -> u64
+        ensures count { result ≡ counted self.old.guarded.events }
+        ensures guarded { self.new.guarded ≡ record self.old.guarded { base = self.old.guarded.server.world; events = [] } }
+        ensures before_base { self.new.before_base ≡ self.old.before_base + submits self.old.guarded.events }
         ensures answered { self.new.answered ≡ self.old.answered }
     {
-        self.settled = Snapshot::of(&self.book);
-        self.state.settle()
+        self.before_base = Snapshot::of(&self.book);
+        self.state.begin_journal_anew()
     }
 
     /// Ends a session, and takes its seat back; what that was answered stays counted. What its ring was sent by then can
     /// still be taken out of the mailbox; what is held back for it is gone. Where memory is refused nothing changes and the
     /// seat comes back.
-    pub fn part(&mut self, seat: Seat<L>) -> Result<(), Seat<L>>
-        ensures ok { OnOk result (Closes seat.session self.old.kept self.new.kept) }
+    pub fn leave(&mut self, seat: Seat<L>) -> Result<(), Seat<L>>
+        ensures ok { OnOk result (Closes seat.session self.old.guarded self.new.guarded) }
         ensures count { OnOk result (SameCount self.old self.new) }
         ensures err { OnErr result (self.new ≡ self.old) }
         ensures seat { IfErr result (λ back. back ≡ seat) }
@@ -268,14 +293,14 @@ impl<L: Ledger> Counted<L> {
             return Err(seat);
         }
         let Seat { session: _, share } = seat;
-        self.parted.merge(share);
+        self.unseated.merge(share);
         self.seats = self.seats.saturating_add(1);
         Ok(())
     }
 
     /// Closes the session, if it is open. False says that memory was refused.
     fn close(&mut self, session: SessionId) -> bool
-        ensures done { result ≡ true → Closes session self.old.kept self.new.kept }
+        ensures done { result ≡ true → Closes session self.old.guarded self.new.guarded }
         ensures count { SameCount self.old self.new }
         ensures refused { result ≡ false → self.new ≡ self.old }
     {

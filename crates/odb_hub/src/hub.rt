@@ -14,7 +14,7 @@ use std::sync::{Mutex, MutexGuard, Wait};
 /// [`Mailbox`](crate::Mailbox) without the lock.
 ///
 /// A thread comes to the lock by a door, where one waits at a time: whoever had the lock finds the door shut while another
-/// waits, so that nobody has it twice meanwhile. What one call does under it is a turn.
+/// waits, so that nobody has it twice meanwhile. What one call of submissions takes under it is a turn.
 #[derive(Drop)]
 pub struct Hub<L: Ledger> {
     door: Mutex<()>,
@@ -22,7 +22,7 @@ pub struct Hub<L: Ledger> {
 }
 
 impl<L: Ledger> Hub<L> {
-    ghost use Rattle.odb_hub.specs.Kept.{IsNew};
+    ghost use Rattle.odb_hub.specs.Guarded.{IsNew};
 
     /// Makes a hub over a new core, which has empty tables, no commit and no session, of which so many seats may be given at once;
     /// these workers compose what a session alone is given.

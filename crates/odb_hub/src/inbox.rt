@@ -64,7 +64,7 @@ impl Inbox {
     ghost use Rattle.odb_core.specs.Deadlines.{earliest};
     ghost use Rattle.odb_hub.specs.Batch.{IsSome, IsTurn, is_sooner};
     ghost use Rattle.odb_hub.specs.Inbox.{HandsOn, IsInOrder, MovesOn, Stops, SubmitsFrom, SubmitsRun, TakesIn};
-    ghost use Rattle.odb_hub.specs.Kept.{IsQuiet};
+    ghost use Rattle.odb_hub.specs.Guarded.{IsQuiet};
     ghost use Rattle.odb_hub.specs.Own.{IsGiven};
 
     /// Makes that of a stream of which nothing was read, whose messages have at most `most` bytes.
@@ -177,12 +177,12 @@ impl Inbox {
         most: usize,
     ) -> Result<BatchOutcome, AllocError>
         ensures order { OnOk result (MovesOn self.old self.new) }
-        ensures submits { IfOk result (λ outcome. SubmitsRun outcome.owes seat.old.session now most self.old self.new hub.old.kept hub.new.kept) }
-        ensures given { IfOk result (λ outcome. OnOk outcome.given (IsGiven seat.old.session hub.new.kept)) }
-        ensures quiet { IfOk result (λ outcome. IfOk outcome.owes (λ owes. owes ≡ false → IsQuiet hub.new.kept.server)) }
+        ensures submits { IfOk result (λ outcome. SubmitsRun outcome.owes seat.old.session now most self.old self.new hub.old.guarded hub.new.guarded) }
+        ensures given { IfOk result (λ outcome. OnOk outcome.given (IsGiven seat.old.session hub.new.guarded)) }
+        ensures quiet { IfOk result (λ outcome. IfOk outcome.owes (λ owes. owes ≡ false → IsQuiet hub.new.guarded.server)) }
         ensures seat { seat.new ≡ record { session = seat.old.session; answered = seat.old.answered + (length self.old.pending - length self.new.pending) } }
         ensures answered { hub.new.answered ≡ hub.old.answered + (length self.old.pending - length self.new.pending) }
-        ensures settled { hub.new.settled ≡ hub.old.settled }
+        ensures before_base { hub.new.before_base ≡ hub.old.before_base }
         ensures err { OnErr result ((self.new ≡ self.old) × (hub.new ≡ hub.old)) }
     {
         let others = self.batch.len().saturating_sub(most);
@@ -210,15 +210,15 @@ impl Inbox {
         now: u64,
     ) -> BatchOutcome
         ensures order { MovesOn self.old self.new }
-        ensures submits { SubmitsFrom result.owes seat.old.session now self.old self.new hub.old.kept hub.new.kept }
+        ensures submits { SubmitsFrom result.owes seat.old.session now self.old self.new hub.old.guarded hub.new.guarded }
         ensures most { IsTurn (length self.old.pending) (length self.new.pending) }
         ensures some { OnOk result.owes (IsSome (length self.old.pending) (length self.new.pending)) }
-        ensures given { OnOk result.given (IsGiven seat.old.session hub.new.kept) }
-        ensures quiet { IfOk result.owes (λ owes. owes ≡ false → IsQuiet hub.new.kept.server) }
-        ensures sooner { result.due_sooner ≡ is_sooner (earliest hub.new.kept.server.world.waiting) (earliest hub.old.kept.server.world.waiting) }
+        ensures given { OnOk result.given (IsGiven seat.old.session hub.new.guarded) }
+        ensures quiet { IfOk result.owes (λ owes. owes ≡ false → IsQuiet hub.new.guarded.server) }
+        ensures sooner { result.due_sooner ≡ is_sooner (earliest hub.new.guarded.server.world.waiting) (earliest hub.old.guarded.server.world.waiting) }
         ensures seat { seat.new ≡ record { session = seat.old.session; answered = seat.old.answered + (length self.old.pending - length self.new.pending) } }
         ensures answered { hub.new.answered ≡ hub.old.answered + (length self.old.pending - length self.new.pending) }
-        ensures settled { hub.new.settled ≡ hub.old.settled }
+        ensures before_base { hub.new.before_base ≡ hub.old.before_base }
     {
         let before = Snapshot::of(&self.batch);
         let outcome = hub.submit_turn(rt, seat, &mut self.batch, now);

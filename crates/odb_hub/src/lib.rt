@@ -6,27 +6,26 @@
 
 mod bell;
 mod buffer;
-mod calls;
 mod composing;
 mod counted;
 mod failure;
 mod hub;
 mod inbox;
 mod journal;
+mod left;
 mod load;
+mod lock_hold;
 mod mailbox;
 mod outbox;
-mod rest;
 mod ring;
 mod rings;
 mod seat;
 mod state;
 mod submission;
 mod submitted;
-mod turn;
+mod wakes;
 
 pub use bell::Bell;
-pub use calls::Calls;
 pub use counted::{BatchOutcome, Counted, Round};
 pub use failure::TransactionFailure;
 pub use hub::Hub;
@@ -36,3 +35,4 @@ pub use outbox::Outbox;
 pub use seat::Seat;
 pub use state::{GroupRound, HubState};
 pub use submission::Submission;
+pub use wakes::Wakes;

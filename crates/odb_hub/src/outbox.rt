@@ -7,17 +7,18 @@ ghost use Rattle.odb_hub.specs.Represented.Mailbox.{name_of, taken};
 
 use crate::bell::Bell;
 use crate::buffer::{Buffer, PIECE};
+use crate::left::MessageLeft;
 use crate::mailbox::Mailbox;
-use crate::rest::MessageRest;
 use odb_core::Out;
 use std::alloc::{AllocError, Global};
 use std::io::{self, Write};
 use std::marker::Model;
 
-/// A mailbox, and what was taken out of it and isn't written yet: the bytes of a buffer, and then the rest of a message.
+/// A mailbox, and what was taken out of it and isn't written yet: the bytes of a buffer, and then what is left of a
+/// message.
 pub struct Outbox {
     mailbox: Mailbox,
-    rest: Option<MessageRest>,
+    message: Option<MessageLeft>,
     buffer: Buffer,
 }
 
@@ -31,17 +32,17 @@ impl Model for Outbox {
 
     ghost coded = { model.outbox_code };
 
-    ghost view = { λ o. record { name = name_of o.mailbox; taken = map text_of_out (taken o.mailbox); left = o.buffer ++ model.bytes_of o.rest } };
+    ghost view = { λ o. record { name = name_of o.mailbox; taken = map text_of_out (taken o.mailbox); left = o.buffer ++ model.bytes_of o.message } };
 }
 
-/// The request by which a peer is asked whether it is there (RFC 7047, 4.1.11).
+/// The request by which a peer is probed, whether it is there (RFC 7047, 4.1.11).
 const PROBE: &[u8] = b"{\"id\":\"echo\",\"method\":\"echo\",\"params\":[]}";
 
 /// How many pieces are written in a turn at most.
 const TURN: usize = 64;
 
 impl Outbox {
-    ghost use Rattle.odb_hub.specs.Outbox.{AsksBy, Moves, MovesSome, Takes};
+    ghost use Rattle.odb_hub.specs.Outbox.{ProbesBy, Moves, MovesSome, Takes};
 
     /// Makes the outbox of a mailbox. Of what was taken out before nothing is left.
     pub fn new(alloc: Global, mailbox: Mailbox) -> Outbox
@@ -49,7 +50,7 @@ impl Outbox {
     {
         Outbox {
             mailbox,
-            rest: None,
+            message: None,
             buffer: Buffer::new(alloc),
         }
     }
@@ -60,10 +61,10 @@ impl Outbox {
     }
 
     /// Returns whether something was taken out that isn't written yet.
-    pub fn has_rest(&self) -> bool
+    pub fn has_left(&self) -> bool
         ensures { result ≡ not (length self.now.left == 0) }
     {
-        !self.buffer.is_empty() || !is_moved(&self.rest)
+        !self.buffer.is_empty() || !is_moved(&self.message)
     }
 
     /// Writes what is left, and then the messages that the mailbox gives, in order: until it gives none, which is true, or
@@ -83,12 +84,13 @@ impl Outbox {
         Ok(false)
     }
 
-    /// Adds the request by which the peer is asked whether it is there, unless a message is in the midst: false. [P 15.2]
-    pub fn ask(&mut self) -> Result<bool, AllocError>
-        ensures ok { IfOk result (λ asked. AsksBy asked self.old self.new) }
+    /// Adds the request by which the peer is probed, whether it is there, unless a message is in the midst: false. [P
+    /// 15.2]
+    pub fn probe(&mut self) -> Result<bool, AllocError>
+        ensures ok { IfOk result (λ probed. ProbesBy probed self.old self.new) }
         ensures err { OnErr result (self.new ≡ self.old) }
     {
-        let is_whole = is_moved(&self.rest);
+        let is_whole = is_moved(&self.message);
         if !is_whole {
             return Ok(false);
         }
@@ -103,12 +105,12 @@ impl Outbox {
         ensures err { OnErr result ((self.old.left ≢ []) × (self.new ≡ self.old)) }
         ensures back { IfErr result (λ back. back ≡ out) }
     {
-        let is_between = is_moved(&self.rest);
+        let is_between = is_moved(&self.message);
         if !is_between {
             return Err(out);
         }
-        let rest = MessageRest::new(out);
-        self.rest = Some(rest);
+        let left = MessageLeft::new(out);
+        self.message = Some(left);
         Ok(())
     }
 
@@ -143,11 +145,11 @@ impl Outbox {
     {
         for _ in 0..PIECE {
             if !self.has_next() {
-                return Ok(self.settle());
+                return Ok(self.give_back_if_empty());
             }
-            self.move_rest()?;
+            self.move_message()?;
         }
-        Ok(self.settle())
+        Ok(self.give_back_if_empty())
     }
 
     /// Returns whether there is a text to move and room for it. It takes the next message out where none is in the
@@ -158,35 +160,35 @@ impl Outbox {
         if self.buffer.is_full() {
             return false;
         }
-        if !is_moved(&self.rest) {
+        if !is_moved(&self.message) {
             return true;
         }
         let Some(out) = self.mailbox.next() else {
             return false;
         };
-        self.rest = Some(MessageRest::new(out));
+        self.message = Some(MessageLeft::new(out));
         true
     }
 
     /// Moves a piece of the message in the midst.
-    fn move_rest(&mut self) -> Result<(), AllocError>
+    fn move_message(&mut self) -> Result<(), AllocError>
         ensures same { self.new ≡ self.old }
         ensures err { OnErr result (self.new.left ≢ []) }
     {
-        let Some(mut rest) = self.rest.take() else {
+        let Some(mut left) = self.message.take() else {
             return Ok(());
         };
-        let moved = rest.move_to(&mut self.buffer);
-        self.rest = rest.unless_empty();
+        let moved = left.move_to(&mut self.buffer);
+        self.message = left.unless_empty();
         moved
     }
 
     /// Returns whether something is left. Where nothing is, the buffer's room is given back.
-    fn settle(&mut self) -> bool
+    fn give_back_if_empty(&mut self) -> bool
         ensures same { self.new ≡ self.old }
         ensures some { result ≡ not (length self.new.left == 0) }
     {
-        if self.has_rest() {
+        if self.has_left() {
             return true;
         }
         self.buffer.give_back();
@@ -195,11 +197,11 @@ impl Outbox {
 }
 
 /// Returns whether no message is in the midst.
-fn is_moved(rest: &Option<MessageRest>) -> bool
-    ensures { result ≡ (length (bytes_of rest.now) == 0) }
+fn is_moved(message: &Option<MessageLeft>) -> bool
+    ensures { result ≡ (length (bytes_of message.now) == 0) }
 {
-    match rest {
-        Some(rest) => rest.is_empty(),
+    match message {
+        Some(left) => left.is_empty(),
         None => true,
     }
 }
@@ -209,7 +211,7 @@ impl Drop for Outbox {
     fn drop(self) {
         let Outbox {
             mailbox: _,
-            rest: _,
+            message: _,
             buffer: _,
         } = self;
     }

@@ -8,7 +8,7 @@ use crate::bell::Bell;
 use crate::load::{ROOM, RingLoad};
 use crate::mailbox::Mailbox;
 use odb_core::Out;
-use odb_waking::GiverPlace;
+use odb_waking::GiverStage;
 use rtrb::{Producer, RingBuffer};
 use std::alloc::{AllocError, Global};
 use std::marker::Model;
@@ -93,43 +93,43 @@ impl Ring {
         requires { self.old.held ≡ None }
         ensures { IsPut (text_of_out out) self.old self.new }
     {
-        let mut place = GiverPlace::of_a_message();
+        let mut stage = GiverStage::of_a_message();
         match self.send(out) {
             Ok(()) => {
-                place.sent();
-                self.bell.let_go(place);
+                stage.sent();
+                self.bell.let_go(stage);
             }
-            Err(out) => self.put_again(out, place),
+            Err(out) => self.put_again(out, stage),
         }
     }
 
     /// Tells the thread that takes messages out that one is held back. It may have made room before, so the ring is tried again.
-    fn put_again(&mut self, out: Out, place: GiverPlace)
+    fn put_again(&mut self, out: Out, stage: GiverStage)
         requires held { self.old.held ≡ None }
-        requires place { place ≡ loops.idle }
+        requires stage { stage ≡ loops.idle }
         ensures { IsPut (text_of_out out) self.old self.new }
     {
-        let mut place = place;
-        place.was_refused();
-        self.bell.hold(&mut place);
+        let mut stage = stage;
+        stage.was_refused();
+        self.bell.hold(&mut stage);
         match self.send(out) {
             Ok(()) => {
-                place.sent_again();
-                self.bell.let_go(place);
+                stage.sent_again();
+                self.bell.let_go(stage);
             }
-            Err(out) => self.hold_back(out, place),
+            Err(out) => self.hold_back(out, stage),
         }
     }
 
     /// Holds a message back, of which it is said that one is held back, and calls the thread.
-    fn hold_back(&mut self, out: Out, place: GiverPlace)
-        requires { place ≡ loops.marked }
+    fn hold_back(&mut self, out: Out, stage: GiverStage)
+        requires { stage ≡ loops.marked }
         ensures { self.new ≡ record (self.old) { held = Some (text_of_out out) } }
     {
-        let mut place = place;
+        let mut stage = stage;
         self.held = Some(out);
-        place.held();
-        self.bell.ring(place);
+        stage.held();
+        self.bell.ring(stage);
     }
 
     /// Sends a message, if the ring has room for it; else it comes back.

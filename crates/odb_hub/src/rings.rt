@@ -84,11 +84,11 @@ impl Rings {
         }
     }
 
-    /// Notes that memory was refused at this moment, in milliseconds, for what the session is owed. O(log n). No contract
+    /// Records that memory was refused at this moment, in milliseconds, for what the session is owed. O(log n). No contract
     /// speaks of it.
-    pub(crate) fn note_refusal(&self, session: SessionId, now: u64) {
+    pub(crate) fn record_refusal(&self, session: SessionId, now: u64) {
         if let Some(ring) = self.rings.get(&session) {
-            ring.bell().note_refusal(now);
+            ring.bell().record_refusal(now);
         }
     }
 
@@ -134,7 +134,7 @@ impl Rings {
         self.free_among(owed, from, most)
     }
 
-    /// Sends what is held back where there is room now, and makes room to note `more` sessions.
+    /// Sends what is held back where there is room now, and makes room for `more` sessions that hold one back.
     fn flush(&mut self, more: usize) -> Result<(), AllocError>
         ensures { (s : ℕ) → IsFlushedAt (get self.old s) (get self.new s) }
     {
@@ -142,13 +142,14 @@ impl Rings {
         let holding = mem::replace(&mut self.holding, room);
         for session in holding {
             self.flush_at(session);
-            self.note(session);
+            self.add_if_holding(session);
         }
         Ok(())
     }
 
     /// Sends what is held back for the session, if its ring has room now, and says whether nothing is held back then; it
-    /// makes room to note the session. O(log n), and O(k) where that is sent and k sessions have a message held back.
+    /// makes room for the session among those that hold one back. O(log n), and O(k) where that is sent and k sessions
+    /// have a message held back.
     pub(crate) fn ready_for(&mut self, session: SessionId) -> Result<bool, AllocError>
         ensures flushed { (s : ℕ) → IsFlushedAt (get self.old s) (get self.new s) }
         ensures others { (s : ℕ) → (session == s) ≡ false → get self.new s ≡ get self.old s }
@@ -159,13 +160,13 @@ impl Rings {
             return Ok(true);
         }
         self.flush_at(session);
-        self.forget(session);
-        self.note(session);
+        self.remove_holding(session);
+        self.add_if_holding(session);
         Ok(self.is_free(session))
     }
 
-    /// Forgets the note of the session.
-    fn forget(&mut self, session: SessionId)
+    /// Removes the session from those for which a message may be held back.
+    fn remove_holding(&mut self, session: SessionId)
         ensures { self.new ≡ self.old }
     {
         self.holding.retain(|holding| *holding != session);
@@ -181,8 +182,8 @@ impl Rings {
         ring.flush();
     }
 
-    /// Notes the session if a message is held back for it. `flush` made room to note each.
-    fn note(&mut self, session: SessionId)
+    /// Adds the session to those for which a message is held back, if one is. `flush` made room for each.
+    fn add_if_holding(&mut self, session: SessionId)
         ensures { self.new ≡ self.old }
     {
         let holds = match self.rings.get(&session) {
@@ -250,7 +251,7 @@ impl Rings {
         for out in outs {
             let session = out.session;
             self.put(out);
-            self.note(session);
+            self.add_if_holding(session);
         }
     }
 
@@ -261,7 +262,7 @@ impl Rings {
         let Some(ring) = self.rings.get_mut(&out.session) else {
             return;
         };
-        ring.bell().note(self.moment);
+        ring.bell().set_given_at(self.moment);
         ring.put(out);
     }
 }

@@ -6,7 +6,7 @@ use std::marker::Model;
 use std::sync::ledger::{Ledger, Share};
 
 /// The right to submit for a session, and how many submits it was answered. It can't be copied or dropped:
-/// `Counted::part` takes it.
+/// `Counted::leave` takes it.
 pub struct Seat<L: Ledger> {
     pub(crate) session: SessionId,
     pub(crate) share: Share<L>,

@@ -1,5 +1,5 @@
 //! What the lock guards.
-ghost use Rattle.std.specs.Prelude.{◌≡◌, ◌⊎◌, ℕ, true, false, [], map, length, IfErr, IfOk, Ok, OnErr, OnOk};
+ghost use Rattle.std.specs.Prelude.{◌≡◌, ◌+◌, ◌≤◌, ◌⊎◌, ℕ, true, false, [], map, length, IfErr, IfOk, IfSome, Ok, OnErr, OnOk};
 ghost use Rattle.odb_atoms.specs.Represented.Atom.{uuid_of};
 ghost use Rattle.odb_wire.specs.Shown.{request_data};
 ghost use Rattle.odb_core.specs.declared.refused.EventRefusal.TheVariants as refused;
@@ -9,10 +9,10 @@ use crate::bell::Bell;
 use crate::composing::{round_by, round_of};
 use crate::failure::{TransactionFailure, add_causes};
 use crate::journal::{Happened, Journal};
+use crate::lock_hold::LockHold;
 use crate::mailbox::Mailbox;
 use crate::rings::Rings;
 use crate::submission::Submission;
-use crate::turn::Turn;
 use odb_core::{Core, EventRefusal, SessionId};
 use odb_par::{Gate, Workers};
 use std::alloc::{AllocError, Global};
@@ -39,8 +39,8 @@ const FEW: usize = 32;
 
 /// A server, the events that it took since a base state, and the rings of its sessions. Each call is one event of the
 /// service machine: where it succeeds the journal grows by that event, and where it is refused nothing changes. What
-/// is always so (`IsKept`): base and journal are a legal history that ends in the server's state; and some events lead to
-/// it from a new server, by which each ring was sent just what they give its session since that was opened.
+/// is always so (`IsGuarded`): base and journal are a legal history that ends in the server's state; and some events
+/// lead to it from a new server, by which each ring was sent just what they give its session since that was opened.
 ///
 /// In the costs below `n` sessions are open. The journal takes no memory.
 pub struct HubState {
@@ -56,15 +56,15 @@ pub struct HubState {
 
 impl Model for HubState {
     ghost use Rattle.std.specs.Prelude.{◌≡◌};
-    ghost use Rattle.odb_hub.specs.Kept.{AreUnused, IsKept, Kept, counted, kept_code};
+    ghost use Rattle.odb_hub.specs.Guarded.{AreUnused, IsGuarded, Guarded, counted, guarded_code};
 
-    ghost Value = { Kept };
+    ghost Value = { Guarded };
 
-    ghost coded = { kept_code };
+    ghost coded = { guarded_code };
 
     ghost view = { λ s. record { server = s.core; base = s.journal.base; events = s.journal.events; rings = s.rings } };
 
-    ghost invariant = { λ s. IsKept (record { server = s.core; base = s.journal.base; events = s.journal.events; rings = s.rings })
+    ghost invariant = { λ s. IsGuarded (record { server = s.core; base = s.journal.base; events = s.journal.events; rings = s.rings })
         × AreUnused s.rings s.core.opened × (s.since_base ≡ counted s.journal.events) };
 }
 
@@ -73,7 +73,7 @@ impl HubState {
     ghost use Rattle.odb_service.specs.Server.{serve};
     ghost use Rattle.odb_core.specs.Represented.Reason.{IsReason};
     ghost use Rattle.odb_hub.specs.Batch.{IsSome, IsTurn, RefusesFirst, TakesUpTo};
-    ghost use Rattle.odb_hub.specs.Kept.{IsKept, IsNew, IsQuiet, Takes, counted};
+    ghost use Rattle.odb_hub.specs.Guarded.{IsGuarded, IsNew, IsQuiet, Takes, counted};
     ghost use Rattle.odb_hub.specs.GroupRounds.{TakesRound};
     ghost use Rattle.odb_hub.specs.Own.{FlushesOwn, GivesOwn, GivesTo, IsGiven, IsOwedNothing, TakesOwnRound};
     ghost use Rattle.odb_hub.specs.Represented.Submission.{events_of};
@@ -100,7 +100,7 @@ impl HubState {
     /// Returns how many events there were since the base, and what is so whenever the lock is free.
     pub fn since_base(&self) -> u64
         ensures count { result ≡ counted self.now.events }
-        ensures kept { IsKept self.now }
+        ensures guarded { IsGuarded self.now }
         ensures short { AreShort self.now.rings }
     {
         self.rings.short();
@@ -133,7 +133,7 @@ impl HubState {
     }
 
     /// Takes a message of a session in; `now` is the moment in milliseconds. It is refused as `Core::submit` is, and
-    /// hands the submission back then. It costs what that call costs, and what the causes do where they are noted.
+    /// hands the submission back then. It costs what that call costs, and what the causes do where failures are kept.
     pub fn submit(
         &mut self,
         session: SessionId,
@@ -148,7 +148,7 @@ impl HubState {
         ensures back { IfErr result (λ back. (back.0.request ≡ submission.request) × (back.0.fresh ≡ submission.fresh)) }
     {
         let taken = self.receive(session, submission, now);
-        self.note_causes();
+        self.record_causes();
         taken
     }
 
@@ -179,18 +179,18 @@ impl HubState {
         }
     }
 
-    /// Takes out the transactions that failed and were noted ([`Core::note_failures`]), with their causes: of those that were
+    /// Takes out the transactions that failed and were kept ([`Core::keep_failures`]), with their causes: of those that were
     /// submitted on the core on which they failed, of those that waited on the core as it is now, or as it was when another
     /// was submitted. One for whose cause memory was refused isn't among them. What the causes of those that waited cost.
     pub fn take_failures(&mut self) -> Vec<TransactionFailure>
         ensures { self.new ≡ self.old }
     {
-        self.note_causes();
+        self.record_causes();
         mem::replace(&mut self.failures, Vec::new(self.alloc))
     }
 
-    /// Finds out why those that failed did.
-    fn note_causes(&mut self)
+    /// Records why those that failed did, as far as memory allows.
+    fn record_causes(&mut self)
         ensures { self.new ≡ self.old }
     {
         let failed = self.core.take_failed();
@@ -212,7 +212,7 @@ impl HubState {
         ensures some { OnOk result (IsSome (length batch.old.items) (length batch.new.items)) }
         ensures why { IfErr result (λ why. RefusesFirst why (events_of session now batch.new.items) self.new.server) }
     {
-        let turn = self.begin_turn(rt, now);
+        let hold = self.begin_hold(rt, now);
         for taken in 0..MOST {
             let Some(submission) = batch.pop() else {
                 return Ok(());
@@ -221,19 +221,20 @@ impl HubState {
                 batch.push_reserved(submission);
                 return Err(why);
             }
-            if batch.is_empty() || turn.is_over(rt) {
+            if batch.is_empty() || hold.is_over(rt) {
                 return Ok(());
             }
         }
         Ok(())
     }
 
-    /// Begins a turn at a moment in milliseconds, by which it is told how long ago sessions were given something.
-    fn begin_turn<R: Clock>(&mut self, rt: &R, now: u64) -> Turn
+    /// Begins a hold of the lock at a moment in milliseconds, by which it is told how long ago sessions were given
+    /// something.
+    fn begin_hold<R: Clock>(&mut self, rt: &R, now: u64) -> LockHold
         ensures { self.new ≡ self.old }
     {
         self.rings.set_moment(now);
-        Turn::begin(rt)
+        LockHold::begin(rt)
     }
 
     /// Sets the moment to `now`, in milliseconds, and tries what waits till then.
@@ -292,6 +293,26 @@ impl HubState {
             given,
             next: ready.next,
         })
+    }
+
+    /// Forgets of the first `most` sessions, from this number on, that may be owed something those that are found to be owed
+    /// nothing, and returns the first after them that may be owed something. What [`Core::shorten_owed`] costs.
+    pub fn forget_resting(&mut self, from: SessionId, most: usize) -> Option<SessionId>
+        ensures same { self.new ≡ self.old }
+        ensures next { IfSome result (λ next. from + most ≤ next) }
+    {
+        self.core.shorten_owed(from, most)
+    }
+
+    /// Forgets the sessions that are found to be owed nothing, where this was the round of all, from this number on: else those of
+    /// the other groups are told first.
+    pub(crate) fn forget_after(&mut self, from: SessionId, group: &GroupRound)
+        ensures { self.new ≡ self.old }
+    {
+        if from > 0 || group.next.is_some() {
+            return;
+        }
+        self.forget_resting(0, usize::MAX);
     }
 
     /// Gives this session alone its next message, if it has one and none is held back for it. What is held back is sent
@@ -357,7 +378,7 @@ impl HubState {
             return None;
         };
         if self.rounds_for(rt, session).is_err() {
-            self.rings.note_refusal(session, now);
+            self.rings.record_refusal(session, now);
         }
         Some(session)
     }
@@ -415,14 +436,14 @@ impl HubState {
 
     /// Makes the state that the server is in the base, and empties the journal: nothing is copied. It returns how many
     /// events there were, 2^64-1 where there were more.
-    pub fn settle(&mut self) -> u64
+    pub fn begin_journal_anew(&mut self) -> u64
         ensures count { result ≡ counted self.old.events }
         ensures base { self.new ≡ record self.old { base = self.old.server.world; events = [] } }
     {
-        let settled = self.since_base;
+        let dropped = self.since_base;
         self.journal = Journal::begin(&self.core);
         self.since_base = 0;
-        settled
+        dropped
     }
 }
 

@@ -6,6 +6,7 @@ pub mod Held
 pub mod Ids
 pub mod KeepsTyped
 pub mod Kept
+pub mod KeptCells
 pub mod Listings
 pub mod Named
 pub mod Prunings

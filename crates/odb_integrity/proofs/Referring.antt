@@ -29,7 +29,7 @@ use Rattle.odb_atoms.specs.declared.atom.Atom as declared_atom
 use Rattle.odb_atoms.specs.declared.value.Entries.TheVariants as entries
 use Rattle.odb_schema.specs.Schema.{Column, Schema, TableSchema, columns_at}
 use Rattle.odb_tables.specs.Database.{Db}
-use Rattle.odb_tables.specs.Kept.{mentions as value_mentions}
+use Rattle.odb_tables.specs.Indexed.{mentions as value_mentions}
 use Rattle.odb_integrity.specs.References.{names}
 use Rattle.odb_integrity.specs.Represented.Reference.{base_references, column_references, mentions_by, references_of}
 use Rattle.odb_integrity.specs.Settlement.{RowId, is_referred, is_stale, is_there, is_weak, referent, refers, row_ids, row_of, same_row, strong_of_row, strong_of_value, strong_target, target, weak_target}

@@ -20,7 +20,7 @@ use Rattle.odb_atoms.specs.Row.{Row}
 use Rattle.odb_atoms.specs.Uuid.{Uuid, same_uuid, uuid_cmp}
 use Rattle.odb_atoms.specs.Value.{Value, same_values}
 use Rattle.odb_tables.specs.Database.{Table}
-use Rattle.odb_tables.specs.Kept.{AlikeAt, HasTwins, StaysApart, cells_at, has_twin, is_twin}
+use Rattle.odb_tables.specs.Indexed.{AlikeAt, HasTwins, StaysApart, cells_at, has_twin, is_twin}
 use Rattle.odb_tables.specs.Represented.Key.{uuid_cmp_total}
 use Rattle.odb_integrity.specs.Settlement.{has_twins}
 use Rattle.odb_integrity.proofs.Listings.{before_later, entry_found}

@@ -1,7 +1,7 @@
 -- What the answer of a settlement stands for.
 pub mod Reference
 pub mod RowId
-pub mod Side
+pub mod PairSide
 use Rattle.std.specs.Prelude.{Result, Ok, Err}
 use Rattle.odb_atoms.specs.Error as model
 use Rattle.odb_atoms.specs.Represented.Error.{error_of}

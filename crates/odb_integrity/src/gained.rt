@@ -1,12 +1,12 @@
 //! The strong references that a row lost, and those that it gained (RFC 7047, section 3.2, `refType`). [P 5]
-ghost use Rattle.std.specs.Prelude.{◌≡◌, ◌++◌, filter, flat_map, IfOk, OnOk};
+ghost use Rattle.std.specs.Prelude.{◌≡◌, ◌++◌, filter, flat_map, IfOk, OnOk, Some};
 ghost use Rattle.std.specs.List.{list_any};
 ghost use Rattle.std.specs.Option.{option_copied};
 ghost use Rattle.odb_atoms.specs.Difference.{difference};
 ghost use Rattle.odb_atoms.specs.Represented.ColType.{type_of};
 ghost use Rattle.odb_atoms.specs.Represented.Value.{pair_of};
 ghost use Rattle.odb_integrity.specs.Gained as model;
-ghost use Rattle.odb_integrity.specs.Settlement.{same_row, strong_of_value};
+ghost use Rattle.odb_integrity.specs.Settlement.{row_of, same_row, strong_of_value};
 
 use crate::references::{
     append_elements, append_value, columns_of, is_strong, strong_of_value, strong_target,
@@ -15,16 +15,17 @@ use crate::references::{
 use crate::row_id::RowId;
 use odb_atoms::{Atom, ColType, Entries, Row, Value, difference};
 use odb_schema::{Schema, TableId};
+use odb_tables::Draft;
 use std::alloc::{AllocError, Global};
 use std::slice;
 
 /// Appends to `lost` the rows to which the row `before` has strong references by elements or pairs that the same column
 /// of `now` hasn't, and to `gained` those to which `now` has by what `before` hasn't; of a column of one value that is
-/// another one, by all that it has. O(columns), and for columns with strong references a comparison of their values;
-/// of those that differ O(n) for their n atoms, once for sets and twice for maps, and O(log n) for each that one of
-/// the two has alone.
+/// another one, by all that it has. They are the row of the identifier as the draft had and has it. O(columns), and for
+/// columns with strong references in which the draft put values a comparison of these; of those that differ O(n) for their n
+/// atoms, once for sets and twice for maps, and O(log n) for each that one of the two has alone.
 pub(crate) fn append_changes(
-    alloc: Global,
+    draft: &Draft,
     schema: &Schema,
     id: RowId,
     before: &Row,
@@ -32,12 +33,18 @@ pub(crate) fn append_changes(
     lost: &mut Vec<RowId>,
     gained: &mut Vec<RowId>,
 ) -> Result<(), AllocError>
+    requires before { row_of draft.now.old id ≡ Some before.now }
+    requires now { row_of draft.now.now id ≡ Some now.now }
     ensures lost { OnOk result
         (lost.new.items ≡ lost.old.items ++ model.gained_by_row schema.now id now.now before.now) }
     ensures gained { OnOk result
         (gained.new.items ≡ gained.old.items ++ model.gained_by_row schema.now id before.now now.now) }
 {
+    let alloc = *lost.allocator();
     for (place, column) in columns_of(schema, id.table()).iter().enumerate() {
+        if draft.keeps(id.table(), place) {
+            continue;
+        }
         append_changes_at(
             alloc,
             schema,

@@ -177,7 +177,7 @@ fn note_row(
         (gaining.new.items ≡ gaining.old.items ++ gains.gaining schema.now draft.now.old draft.now.now id) }
 {
     let mut gained = Vec::new(alloc);
-    append_row(alloc, draft, schema, id, lost, &mut gained)?;
+    append_row(draft, schema, id, lost, &mut gained)?;
     insert_others(id, &gained, referred)?;
     note_missing(draft, id, &gained, gaining)
 }
@@ -185,7 +185,6 @@ fn note_row(
 /// Appends to `lost` the row where it wasn't there before, else the rows to which it lost strong references; and to
 /// `gained` those to which it gained one.
 fn append_row(
-    alloc: Global,
     draft: &Draft,
     schema: &Schema,
     id: RowId,
@@ -199,7 +198,7 @@ fn append_row(
 {
     match draft.before(id.table(), id.uuid()) {
         Some(before) => match draft.get(id.table(), id.uuid()) {
-            Some(now) => append_changes(alloc, schema, id, before, now, lost, gained),
+            Some(now) => append_changes(draft, schema, id, before, now, lost, gained),
             None => append_strong(schema, id, before, lost),
         },
         None => {

@@ -7,7 +7,7 @@ ghost use Rattle.odb_integrity.specs.Settlement as model;
 ghost use Rattle.odb_schema.specs.Schema.{column_place};
 ghost use Rattle.odb_schema.specs.Represented.Names.{names_of};
 ghost use Rattle.odb_tables.specs.Database.{table_at};
-ghost use Rattle.odb_tables.specs.Kept.{cells_at};
+ghost use Rattle.odb_tables.specs.Indexed.{cells_at};
 
 use odb_schema::{Schema, TableId, TableSchema};
 use odb_tables::Draft;

@@ -4,7 +4,7 @@ ghost use Rattle.std.specs.List.{list_any};
 ghost use Rattle.odb_atoms.specs.Represented.Atom.{atom_of};
 ghost use Rattle.odb_atoms.specs.Represented.ColType.{base_of, type_of};
 ghost use Rattle.odb_integrity.specs.References.{has_type, is_mixed, is_strong, names};
-ghost use Rattle.odb_integrity.specs.Represented.Side.{atom_at};
+ghost use Rattle.odb_integrity.specs.Represented.PairSide.{atom_at};
 ghost use Rattle.odb_integrity.specs.Settlement as model;
 ghost use Rattle.odb_integrity.specs.Settlement.{same_row};
 ghost use Rattle.odb_atoms.specs.Atom.{uuid};
@@ -200,9 +200,9 @@ pub(crate) fn append_value(
     match value.entries() {
         Entries::Set(elements) => append_elements(keys, elements, rows),
         Entries::Map(pairs) => {
-            append_side(keys, Side::Key, pairs, rows)?;
+            append_side(keys, PairSide::Key, pairs, rows)?;
             let values = strong_target(schema, value_base(column));
-            append_side(values, Side::Value, pairs, rows)
+            append_side(values, PairSide::Value, pairs, rows)
         }
     }
 }
@@ -300,23 +300,23 @@ pub(crate) fn append_elements(
 
 /// One of the two atoms of a pair.
 #[derive(Clone, Copy)]
-enum Side {
+enum PairSide {
     Key,
     Value,
 }
 
-fn atom_at(side: Side, pair: &(Atom, Atom)) -> &Atom
+fn atom_at(side: PairSide, pair: &(Atom, Atom)) -> &Atom
     ensures { result.now ≡ atom_at side pair.now }
 {
     match side {
-        Side::Key => &pair.0,
-        Side::Value => &pair.1,
+        PairSide::Key => &pair.0,
+        PairSide::Value => &pair.1,
     }
 }
 
 fn append_side(
     target: Option<TableId>,
-    side: Side,
+    side: PairSide,
     pairs: &[(Atom, Atom)],
     rows: &mut Vec<RowId>,
 ) -> Result<(), AllocError>

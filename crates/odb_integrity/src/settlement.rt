@@ -33,8 +33,8 @@ use std::alloc::{AllocError, Global};
 /// put. The draft's rows have to be of the schema, and the database that it began with settled.
 ///
 /// It costs what the transaction touched: O(rows touched, and their columns), O(tables) and O(columns of the schema).
-/// For each column of a touched row that may refer to rows, its values before and now are compared; where they differ
-/// it costs O(n) for the n atoms in them, and O(log n) for each that one of the two has alone. These n are gone over
+/// For each column of a touched row that may refer to rows, its values before and now are compared, but where the draft keeps
+/// the column in all rows of the table (`Draft::keeps`); where they differ it costs O(n) for the n atoms in them, and O(log n) for each that one of the two has alone. These n are gone over
 /// once, but twice in a column of maps, and in one that pairs weak references with strong ones once more. All that a
 /// new row names is looked up. Beyond that settlement looks at these rows, and at no others:
 ///

@@ -95,6 +95,9 @@ fn gains_stale_at(
     };
     match value_at(draft.before(id.table(), id.uuid()), place) {
         Some(before) => {
+            if draft.keeps(id.table(), place) {
+                return Ok(false);
+            }
             if *before == *now {
                 return Ok(false);
             }

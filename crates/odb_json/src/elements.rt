@@ -20,7 +20,7 @@ use std::alloc::{AllocError, Global};
 
 /// The elements in front of the first fault, and that fault.
 #[derive(Drop)]
-struct Front {
+struct FrontElements {
     elements: Vec<Atom>,
     fault: Option<Error>,
 }
@@ -56,7 +56,7 @@ fn read_front(
     kind: Kind,
     items: &[Value],
     names: Option<&Names>,
-) -> Result<Front, AllocError>
+) -> Result<FrontElements, AllocError>
     ensures elements { IfOk result (λ front. map atom_of front.elements.items
         ≡ (parts.elements_front (option_map (λ n. n.now) names.entry) (kind_in kind)
         (items_view items.now)).0) }
@@ -68,10 +68,10 @@ fn read_front(
     for item in items {
         let fault = append(alloc, kind, item, names, &mut elements)?;
         if fault.is_some() {
-            return Ok(Front { elements, fault });
+            return Ok(FrontElements { elements, fault });
         }
     }
-    Ok(Front {
+    Ok(FrontElements {
         elements,
         fault: None,
     })

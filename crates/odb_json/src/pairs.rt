@@ -28,7 +28,7 @@ pub struct Kinds {
 
 /// The pairs in front of the first fault, and that fault.
 #[derive(Drop)]
-struct Front {
+struct FrontPairs {
     pairs: Vec<(Atom, Atom)>,
     fault: Option<Error>,
 }
@@ -107,7 +107,7 @@ impl PairReader<'_> {
     }
 
     /// Reads the pairs in front of the first fault.
-    fn read_front(self, items: &[Value]) -> Result<Front, AllocError>
+    fn read_front(self, items: &[Value]) -> Result<FrontPairs, AllocError>
         ensures pairs { IfOk result (λ front. map pair_of front.pairs.items
             ≡ (parts.pairs_front (option_map (λ n. n.now) self.entry.names) (kind_in self.entry.kinds.key)
             (kind_in self.entry.kinds.value) (items_view items.now)).0) }
@@ -119,10 +119,10 @@ impl PairReader<'_> {
         for item in items {
             let fault = self.append(item, &mut pairs)?;
             if fault.is_some() {
-                return Ok(Front { pairs, fault });
+                return Ok(FrontPairs { pairs, fault });
             }
         }
-        Ok(Front { pairs, fault: None })
+        Ok(FrontPairs { pairs, fault: None })
     }
 
     /// Reads the map of an array's pairs, of which no two may have the same key.

@@ -1,7 +1,7 @@
 -- What a hub's rings were sent are the texts of what the machine's run gave.
 use Rattle.std.proofs.Common.{◌≡◌, ℕ, length, Some, refl, sym}
 use Rattle.odb_atoms.specs.FinMap.{get}
-use Rattle.odb_hub.specs.Kept.{IsKept, Kept}
+use Rattle.odb_hub.specs.Guarded.{IsGuarded, Guarded}
 use Rattle.odb_hub.specs.Rings.{Ring}
 use Rattle.odb_law.specs.Headline.{HoldsAlways}
 use Rattle.odb_law.specs.Rings.{HoldsOfRings, IsRunTo}

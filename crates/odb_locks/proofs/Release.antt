@@ -19,10 +19,10 @@ use Rattle.std.proofs.lemmas.Map.Text.{is_eq-slice_cmp}
 use Rattle.odb_atoms.specs.FinMap as finite
 use Rattle.odb_atoms.specs.Text.{same_text}
 use Rattle.odb_atoms.proofs.FinMaps.{contains_key-keys}
-use Rattle.odb_locks.specs.Locks.{Claim, Lock, Locks, Notice, drop_names, drop_session, has_claim, is_first, lock_of, owns, told_locked, without}
+use Rattle.odb_locks.specs.Locks.{Claim, Lock, Locks, Notice, drop_names, drop_session, has_claim, is_first, lock_of, notices_when_freed, owns, without}
 use Rattle.odb_locks.specs.Represented.Lock.{next_of}
 use Rattle.odb_locks.specs.Represented.Notice.{notice_to}
-use Rattle.odb_locks.specs.Represented.Locks.{all_released, all_told, released, told_of_release}
+use Rattle.odb_locks.specs.Represented.Locks.{all_notices, all_released, notice_of_release, released}
 use Rattle.odb_locks.specs.Represented.Index.{Forgets, Indexes}
 use Rattle.odb_locks.specs.declared.index.Index.{Index}
 use Rattle.odb_locks.proofs.Claims.{and-false, and-true, has_claim-released, lock_of-put}
@@ -64,7 +64,7 @@ rising-keys l = rising l.entries l.sorted
 
 -- ---- one name
 
-told-next : (s : ℕ) (name : List ℕ) (cs : List Claim) → told_locked s name cs ≡ notice_to (next_of s cs) false name
+told-next : (s : ℕ) (name : List ℕ) (cs : List Claim) → notices_when_freed s name cs ≡ notice_to (next_of s cs) false name
 told-next s name [] = refl
 told-next s name (c ∷ []) = refl
 told-next s name (c ∷ d ∷ cs) = at (c.session == s)
@@ -78,10 +78,10 @@ first_is true b e = absurd (subst T e tt)
 first_is false b e = refl
 
 -- nobody is told where the session has no claim
-untold : (s : ℕ) (name : List ℕ) (k : Lock) → has_claim s k ≡ false → told_locked s name k.claims ≡ []
+untold : (s : ℕ) (name : List ℕ) (k : Lock) → has_claim s k ≡ false → notices_when_freed s name k.claims ≡ []
 untold s name k e = by k.claims (first_is _ _ e)
   where
-    by : (cs : List Claim) → list_any (λ c. c.session == s) cs ≡ false → told_locked s name cs ≡ []
+    by : (cs : List Claim) → list_any (λ c. c.session == s) cs ≡ false → notices_when_freed s name cs ≡ []
     by [] h = refl
     by (c ∷ []) h = refl
     by (c ∷ d ∷ cs) h = ap (λ b. cond b (let n : Notice = record { session = d.session; stolen = false; name = name } in n ∷ []) []) (first_is _ _ h)
@@ -93,7 +93,7 @@ keep s at l name [] below are = tt
 keep s at l name (n ∷ names) below are = (lock_of-put l name (without s (lock_of l name)) n ∙ ap (λ b. cond b (without s (lock_of l name)) (lock_of l n)) (sym (is_eq-slice_cmp name n) ∙ ap is_eq below.0) ∙ are.0, keep s at l name names below.1 are.1)
 
 -- the session's names, one after another, are those that it has a claim of
-dropped : (s : ℕ) (at : List ℕ → Lock) (names : List (List ℕ)) (l : Locks) → IsStrictlySortedBy (by_bytes) names → AllByRecursion (λ n. lock_of l n ≡ at n) names → drop_names s names l ≡ (all_released s l (filter (λ n. has_claim s (at n)) names), all_told s at (filter (λ n. has_claim s (at n)) names))
+dropped : (s : ℕ) (at : List ℕ → Lock) (names : List (List ℕ)) (l : Locks) → IsStrictlySortedBy (by_bytes) names → AllByRecursion (λ n. lock_of l n ≡ at n) names → drop_names s names l ≡ (all_released s l (filter (λ n. has_claim s (at n)) names), all_notices s at (filter (λ n. has_claim s (at n)) names))
 unfolding IsStrictlySortedBy
 dropped s at [] l up are = refl
 dropped s at (name ∷ names) l up are =
@@ -105,16 +105,16 @@ dropped s at (name ∷ names) l up are =
     claimed : List (List ℕ)
     claimed = filter (λ n. has_claim s (at n)) names
 
-    told_here : told_locked s name k.claims ≡ told_of_release s at name
+    told_here : notices_when_freed s name k.claims ≡ notice_of_release s at name
     told_here = told-next s name k.claims ∙ ap (λ (j : Lock). notice_to (next_of s j.claims) false name) are.0
 
     after : Locks → Locks × List Notice
-    after m = ((drop_names s names m).0, told_locked s name k.claims ++ (drop_names s names m).1)
+    after m = ((drop_names s names m).0, notices_when_freed s name k.claims ++ (drop_names s names m).1)
 
     listed : List (List ℕ) → Locks × List Notice
-    listed ns = (all_released s l ns, all_told s at ns)
+    listed ns = (all_released s l ns, all_notices s at ns)
 
-    by : (b : Bool) → has_claim s k ≡ b → drop_names s names (released s l name) ≡ (all_released s (released s l name) claimed, all_told s at claimed) → drop_names s names l ≡ listed claimed → after (cond b (released s l name) l) ≡ listed (cond (has_claim s (at name)) (name ∷ claimed) claimed)
+    by : (b : Bool) → has_claim s k ≡ b → drop_names s names (released s l name) ≡ (all_released s (released s l name) claimed, all_notices s at claimed) → drop_names s names l ≡ listed claimed → after (cond b (released s l name) l) ≡ listed (cond (has_claim s (at name)) (name ∷ claimed) claimed)
     by true e h g =
         (λ i. let r : Locks × List Notice = ((h i).0, told_here i ++ (h i).1) in r)
         ∙ ap (λ b. listed (cond b (name ∷ claimed) claimed)) (sym e ∙ ap (has_claim s) are.0)
@@ -198,10 +198,10 @@ all_same l [] = tt
 all_same l (n ∷ names) = (refl, all_same l names)
 
 -- to drop a session is to take back its claims of the names that it has claims of
-drop_session-names : (l : Locks) (s : ℕ) (names : List (List ℕ)) → IsStrictlySortedBy by_bytes names → ((q : List ℕ) → list_any (eq_by_cmp by_bytes q) names ≡ has_claim s (lock_of l q)) → drop_session l s ≡ (all_released s l names, all_told s (lock_of l) names)
+drop_session-names : (l : Locks) (s : ℕ) (names : List (List ℕ)) → IsStrictlySortedBy by_bytes names → ((q : List ℕ) → list_any (eq_by_cmp by_bytes q) names ≡ has_claim s (lock_of l q)) → drop_session l s ≡ (all_released s l names, all_notices s (lock_of l) names)
 drop_session-names l s names up are =
     dropped s (lock_of l) (finite.keys l) l (rising-keys l) (all_same l (finite.keys l))
-    ∙ ap (λ ns. let r : Locks × List Notice = (all_released s l ns, all_told s (lock_of l) ns) in r) (claimed_names l s names up are)
+    ∙ ap (λ ns. let r : Locks × List Notice = (all_released s l ns, all_notices s (lock_of l) ns) in r) (claimed_names l s names up are)
 
 -- ---- as the code has it
 
@@ -218,7 +218,7 @@ any-texts : (q : List ℕ) (ks : List (String Global)) → list_any (eq_by_cmp b
 any-texts q [] = refl
 any-texts q (k ∷ ks) = ap (λ b. eq_by_cmp by_bytes q (string_bytes k) || b) (any-texts q ks)
 
-pub drop_session-set : (l : Locks) (s : ℕ) (names : BTreeSet (String Global)) → IsOrdered string_cmp names → ((q : List ℕ) → contains_text names q ≡ has_claim s (lock_of l q)) → drop_session l s ≡ (all_released s l (map string_bytes names.keys), all_told s (lock_of l) (map string_bytes names.keys))
+pub drop_session-set : (l : Locks) (s : ℕ) (names : BTreeSet (String Global)) → IsOrdered string_cmp names → ((q : List ℕ) → contains_text names q ≡ has_claim s (lock_of l q)) → drop_session l s ≡ (all_released s l (map string_bytes names.keys), all_notices s (lock_of l) (map string_bytes names.keys))
 drop_session-set l s names up are = drop_session-names l s (map string_bytes names.keys) (rising-texts names.keys up) (λ q. any-texts q names.keys ∙ are q)
 
 pub drop_session-none : (l : Locks) (s : ℕ) → ((q : List ℕ) → false ≡ has_claim s (lock_of l q)) → drop_session l s ≡ (l, [])

@@ -21,7 +21,7 @@ use Rattle.odb_atoms.specs.FinMap as finite
 use Rattle.odb_atoms.proofs.FinMaps.{get-empty, get-insert, get-retain_keys, same_map}
 use Rattle.odb_locks.specs.Locks.{Claim, Lock, Locks, is_free, lock_of, put_lock, without}
 use Rattle.odb_locks.specs.Represented.Lock.{with_claim}
-use Rattle.odb_locks.specs.Represented.Table.{locks_in}
+use Rattle.odb_locks.specs.Represented.LockTable.{locks_in}
 
 abbrev pub by_bytes : List ℕ → List ℕ → Ordering
 by_bytes = slice_cmp nat_cmp

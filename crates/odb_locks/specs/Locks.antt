@@ -75,22 +75,22 @@ abbrev pub robbed_now : List Claim → List ℕ
 robbed_now [] = []
 robbed_now (c ∷ cs) = if c.stolen then c.session ∷ [] else []
 
-abbrev pub told_stolen : List ℕ → List Claim → List Notice
-told_stolen name [] = []
-told_stolen name (c ∷ cs) = record { session = c.session; stolen = true; name = name } ∷ []
+abbrev pub notices_when_stolen : List ℕ → List Claim → List Notice
+notices_when_stolen name [] = []
+notices_when_stolen name (c ∷ cs) = record { session = c.session; stolen = true; name = name } ∷ []
 
 abbrev pub steal : Locks → ℕ → List ℕ → Answered
 steal l s name =
     let k = lock_of l name in
     if has_claim s k then Err out_of_turn
     else (if is_free k && not (nat_lt (map.len l) max_names) then Err too_many_names
-    else Ok (put_lock l name (record { claims = record { session = s; stolen = true } ∷ claims_left k.claims; robbed = k.robbed ++ robbed_now k.claims }), told_stolen name k.claims, true))
+    else Ok (put_lock l name (record { claims = record { session = s; stolen = true } ∷ claims_left k.claims; robbed = k.robbed ++ robbed_now k.claims }), notices_when_stolen name k.claims, true))
 
 -- who becomes first when s leaves
-abbrev pub told_locked : ℕ → List ℕ → List Claim → List Notice
-told_locked s name [] = []
-told_locked s name (c ∷ []) = []
-told_locked s name (c ∷ d ∷ cs) = if c.session == s then record { session = d.session; stolen = false; name = name } ∷ [] else []
+abbrev pub notices_when_freed : ℕ → List ℕ → List Claim → List Notice
+notices_when_freed s name [] = []
+notices_when_freed s name (c ∷ []) = []
+notices_when_freed s name (c ∷ d ∷ cs) = if c.session == s then record { session = d.session; stolen = false; name = name } ∷ [] else []
 
 abbrev pub without : ℕ → Lock → Lock
 without s k = record { claims = filter (λ c. not (c.session == s)) k.claims; robbed = filter (λ t. not (t == s)) k.robbed }
@@ -98,7 +98,7 @@ without s k = record { claims = filter (λ c. not (c.session == s)) k.claims; ro
 abbrev pub unlock : Locks → ℕ → List ℕ → Answered
 unlock l s name =
     let k = lock_of l name in
-    if has_claim s k then Ok (put_lock l name (without s k), told_locked s name k.claims, false) else Err out_of_turn
+    if has_claim s k then Ok (put_lock l name (without s k), notices_when_freed s name k.claims, false) else Err out_of_turn
 
 -- a session's claims go by ascending name
 abbrev pub drop_names : ℕ → List (List ℕ) → Locks → Locks × List Notice
@@ -106,7 +106,7 @@ drop_names s [] l = (l, [])
 drop_names s (name ∷ names) l =
     let k = lock_of l name in
     let rest = drop_names s names (if has_claim s k then put_lock l name (without s k) else l) in
-    (rest.0, told_locked s name k.claims ++ rest.1)
+    (rest.0, notices_when_freed s name k.claims ++ rest.1)
 
 abbrev pub drop_session : Locks → ℕ → Locks × List Notice
 drop_session l s = drop_names s (map.keys l) l

@@ -7,9 +7,9 @@
 
 mod index;
 mod lock;
+mod lock_table;
 mod locks;
 mod notice;
-mod table;
 
 pub use locks::{LockFault, LockOutcome, Locks, SessionId};
 pub use notice::Notice;

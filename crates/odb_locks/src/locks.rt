@@ -12,8 +12,8 @@ ghost use Rattle.odb_locks.specs.Represented.Notice.{notices_of};
 
 use crate::index::Index;
 use crate::lock::Claim;
+use crate::lock_table::LockTable;
 use crate::notice::{Notice, tell};
-use crate::table::Table;
 use std::alloc::{AllocError, Global};
 use std::marker::Model;
 use thiserror::Error;
@@ -67,7 +67,7 @@ pub struct LockOutcome {
 /// locks makes its growths first, and changes nothing where memory is refused.
 pub struct Locks {
     alloc: Global,
-    table: Table,
+    table: LockTable,
     index: Index,
 }
 
@@ -92,7 +92,7 @@ impl Locks {
     {
         Locks {
             alloc,
-            table: Table::new(alloc),
+            table: LockTable::new(alloc),
             index: Index::new(alloc),
         }
     }

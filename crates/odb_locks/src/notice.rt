@@ -20,14 +20,14 @@ pub struct Notice {
 pub fn tell(
     notices: &mut Vec<Notice>,
     alloc: Global,
-    told: Option<usize>,
+    to: Option<usize>,
     stolen: bool,
     name: &str,
 ) -> Result<(), AllocError>
     ensures { OnOk result (notices_of notices.new.items
-        ≡ notices_of notices.old.items ++ notice_to told stolen name.now) }
+        ≡ notices_of notices.old.items ++ notice_to to stolen name.now) }
 {
-    if let Some(session) = told {
+    if let Some(session) = to {
         let name = String::from_str(alloc, name)?;
         notices.push(Notice {
             session,

@@ -8,13 +8,13 @@ ghost use Rattle.odb_monitor.specs.Job as model_job;
 ghost use Rattle.odb_monitor.specs.Job.{updates_of};
 ghost use Rattle.odb_monitor.specs.Listing.{listed_tokens};
 ghost use Rattle.odb_monitor.specs.Represented.Part.{is_silent, part_tokens};
-ghost use Rattle.odb_request.specs.Represented.Kind.{notation_of};
+ghost use Rattle.odb_request.specs.Represented.Notation.{notation_of};
 
 use crate::listing::Listing;
 use crate::part::Part;
 use json::Token;
 use odb_print::Printer;
-use odb_request::Kind;
+use odb_request::Notation;
 use std::alloc::{AllocError, Global};
 use std::marker::Model;
 use std::mem;
@@ -24,7 +24,7 @@ use std::thread::Threads;
 /// by table, in the order of the parts.
 #[derive(Drop)]
 pub struct Job<'a> {
-    kind: Kind,
+    notation: Notation,
     first: bool,
     reply: bool,
     parts: Vec<Part<'a>>,
@@ -33,14 +33,14 @@ pub struct Job<'a> {
 impl<'a> Model for Job<'a> {
     ghost use Rattle.odb_monitor.specs.Job as model;
     ghost use Rattle.odb_monitor.specs.Represented.Part.{job_code};
-    ghost use Rattle.odb_request.specs.Represented.Kind.{notation_of};
+    ghost use Rattle.odb_request.specs.Represented.Notation.{notation_of};
 
     ghost Value = { model.Job };
 
     ghost coded = { job_code };
 
     ghost view = { λ j. record {
-      notation = notation_of j.kind;
+      notation = notation_of j.notation;
       first = j.first;
       reply = j.reply;
       parts = j.parts.items;
@@ -49,11 +49,11 @@ impl<'a> Model for Job<'a> {
 
 impl<'a> Job<'a> {
     /// Makes the job of what is owed by these parts, in a first reply or later. O(1).
-    pub fn new(kind: Kind, first: bool, parts: Vec<Part<'a>>) -> Job<'a>
-        ensures { result ≡ record { notation = notation_of kind; first = first; reply = first; parts = parts.entry.items } }
+    pub fn new(notation: Notation, first: bool, parts: Vec<Part<'a>>) -> Job<'a>
+        ensures { result ≡ record { notation = notation_of notation; first = first; reply = first; parts = parts.entry.items } }
     {
         Job {
-            kind,
+            notation,
             first,
             reply: first,
             parts,
@@ -62,11 +62,11 @@ impl<'a> Job<'a> {
 
     /// Makes a reply of what is owed by these parts to a client that resumes (ovsdb-server(7), 4.1.15): it had rows
     /// already. O(1).
-    pub fn resumed(kind: Kind, parts: Vec<Part<'a>>) -> Job<'a>
-        ensures { result ≡ record { notation = notation_of kind; first = false; reply = true; parts = parts.entry.items } }
+    pub fn resumed(notation: Notation, parts: Vec<Part<'a>>) -> Job<'a>
+        ensures { result ≡ record { notation = notation_of notation; first = false; reply = true; parts = parts.entry.items } }
     {
         Job {
-            kind,
+            notation,
             first: false,
             reply: true,
             parts,
@@ -76,7 +76,7 @@ impl<'a> Job<'a> {
     /// Takes the parts out, and leaves none. O(1).
     pub fn take_parts(&mut self, alloc: Global) -> Vec<Part<'a>>
         ensures parts { result.items ≡ self.old.parts }
-        ensures rest { self.new ≡ record self.old { parts = [] } }
+        ensures others { self.new ≡ record self.old { parts = [] } }
     {
         mem::replace(&mut self.parts, Vec::new(alloc))
     }
@@ -86,11 +86,20 @@ impl<'a> Job<'a> {
         ensures { result ≡ record self.entry { parts = parts.entry.items } }
     {
         Job {
-            kind: self.kind,
+            notation: self.notation,
             first: self.first,
             reply: self.reply,
             parts,
         }
+    }
+
+    /// Counts the rows of its tables that changed since the client was told. O(n) for n tables. No contract speaks of it.
+    pub fn changed_rows(&self) -> usize {
+        let mut rows: usize = 0;
+        for part in &self.parts {
+            rows = rows.saturating_add(part.changed_rows());
+        }
+        rows
     }
 
     /// Returns whether something is sent: some row is shown, or this is a reply. It stops at the first row that is
@@ -137,7 +146,7 @@ impl<'a> Job<'a> {
         ensures { IfOk result (λ listing. (p : model_job.Part) → slice_get self.now.parts place ≡ Some p
             → listed_tokens listing ≡ part_tokens self.now.notation self.now.first p) }
     {
-        self.parts[place].list(rt, alloc, self.kind, self.first)
+        self.parts[place].list(rt, alloc, self.notation, self.first)
     }
 }
 
@@ -156,17 +165,17 @@ fn has_lines(alloc: Global, first: bool, parts: &[Part<'_>]) -> Result<bool, All
 /// Prints the parts, and says whether a row of some part is shown.
 fn put_parts(
     alloc: Global,
-    kind: Kind,
+    notation: Notation,
     first: bool,
     parts: &[Part<'_>],
     out: &mut Printer,
 ) -> Result<bool, AllocError>
-    ensures tokens { OnOk result (out.new ≡ out.old ++ flat_map (part_tokens (notation_of kind) first) parts.now) }
+    ensures tokens { OnOk result (out.new ≡ out.old ++ flat_map (part_tokens (notation_of notation) first) parts.now) }
     ensures shown { IfOk result (λ shown. shown ≡ list_any (λ p. not (is_silent first p)) parts.now) }
 {
     let mut shown = false;
     for part in parts {
-        let has_lines = part.put(alloc, kind, first, out)?;
+        let has_lines = part.put(alloc, notation, first, out)?;
         shown = shown || has_lines;
     }
     Ok(shown)
@@ -175,16 +184,16 @@ fn put_parts(
 /// Prints the object of the parts, and says whether a row of some part is shown.
 fn put_object(
     alloc: Global,
-    kind: Kind,
+    notation: Notation,
     first: bool,
     parts: &[Part<'_>],
     out: &mut Printer,
 ) -> Result<bool, AllocError>
-    ensures tokens { OnOk result (out.new ≡ out.old ++ (begin_object ∷ (flat_map (part_tokens (notation_of kind) first) parts.now ++ end_object ∷ []))) }
+    ensures tokens { OnOk result (out.new ≡ out.old ++ (begin_object ∷ (flat_map (part_tokens (notation_of notation) first) parts.now ++ end_object ∷ []))) }
     ensures shown { IfOk result (λ shown. shown ≡ list_any (λ p. not (is_silent first p)) parts.now) }
 {
     out.put(Token::BeginObject)?;
-    let shown = put_parts(alloc, kind, first, parts, out)?;
+    let shown = put_parts(alloc, notation, first, parts, out)?;
     out.put(Token::EndObject)?;
     Ok(shown)
 }
@@ -201,7 +210,7 @@ pub fn compose(alloc: Global, job: &Job<'_>) -> Result<Option<Vec<u8>>, AllocErr
     ensures { IfOk result (λ text. option_map (λ t. t.items) text ≡ option_map compact_text (updates_of job.now)) }
 {
     let mut out = Printer::new(alloc);
-    let shown = put_object(alloc, job.kind, job.first, &job.parts, &mut out)?;
+    let shown = put_object(alloc, job.notation, job.first, &job.parts, &mut out)?;
     let is_sent = job.reply || shown;
     if !is_sent {
         return Ok(None);

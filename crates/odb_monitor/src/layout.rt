@@ -7,7 +7,7 @@ ghost use Rattle.odb_monitor.specs.Represented.Line.{change_in, line_in};
 ghost use Rattle.odb_print.specs.Tokens.{member_tokens, tokens_of};
 ghost use Rattle.odb_monitor.specs.Update.{all_cells, differences, old_cells, one, row_object, row_update, set_cells, table_update};
 ghost use Rattle.odb_monitor.specs.View.{cut};
-ghost use Rattle.odb_request.specs.Represented.Kind.{notation_of};
+ghost use Rattle.odb_request.specs.Represented.Notation.{notation_of};
 ghost use Rattle.odb_request.specs.Request.{update, update2};
 ghost use Rattle.serde_json.specs.Data.{null};
 
@@ -18,17 +18,17 @@ use json::Token;
 use odb_atoms::Row;
 use odb_cond::Selector;
 use odb_print::{Printer, RowCells, put_key};
-use odb_request::{Kind, Shape};
+use odb_request::{Notation, Shape};
 use std::alloc::{AllocError, Global};
 use std::marker::Model;
 use uuid::Uuid;
 
-/// How the rows of a table are printed: by which kind of monitor, whether in a first reply, and with which
+/// How the rows of a table are printed: in which notation, whether in a first reply, and with which
 /// columns.
 #[derive(Drop)]
 pub struct Layout<'a> {
     alloc: Global,
-    kind: Kind,
+    notation: Notation,
     first: bool,
     columns: Columns<'a>,
     named: &'a [Selector],
@@ -38,7 +38,7 @@ impl<'a> Model for Layout<'a> {
     ghost use Rattle.std.specs.Prelude.{map};
     ghost use Rattle.odb_monitor.specs.Represented.Layout as model;
     ghost use Rattle.odb_monitor.specs.Represented.Layout.{layout_code};
-    ghost use Rattle.odb_request.specs.Represented.Kind.{notation_of};
+    ghost use Rattle.odb_request.specs.Represented.Notation.{notation_of};
     ghost use Rattle.odb_request.specs.Represented.Parts.{monitored_as};
 
     ghost Value = { model.Layout };
@@ -46,7 +46,7 @@ impl<'a> Model for Layout<'a> {
     ghost coded = { layout_code };
 
     ghost view = { λ l. record {
-      notation = notation_of l.kind;
+      notation = notation_of l.notation;
       first = l.first;
       columns = map (monitored_as l.columns) l.named.now;
     } };
@@ -54,16 +54,16 @@ impl<'a> Model for Layout<'a> {
 
 impl<'a> Layout<'a> {
     /// Returns how the rows of what is monitored are printed. O(1).
-    pub fn of(alloc: Global, shape: &'a Shape, kind: Kind, first: bool) -> Layout<'a>
+    pub fn of(alloc: Global, shape: &'a Shape, notation: Notation, first: bool) -> Layout<'a>
         ensures { result ≡ record {
-          notation = notation_of kind;
+          notation = notation_of notation;
           first = first;
           columns = shape.now.shape.columns;
         } }
     {
         Layout {
             alloc,
-            kind,
+            notation,
             first,
             columns: Columns::of(alloc, shape.table_schema()),
             named: shape.columns(),
@@ -217,9 +217,9 @@ impl<'a> Layout<'a> {
         ensures { OnOk result (out.new ≡ out.old ++ row_tokens self.now (line_in self.now.columns line.now)) }
     {
         put_key(out, line.uuid)?;
-        match self.kind {
-            Kind::Monitor => self.put_update(out, line),
-            Kind::MonitorCond => self.put_update2(out, line),
+        match self.notation {
+            Notation::Monitor => self.put_update(out, line),
+            Notation::MonitorCond => self.put_update2(out, line),
         }
     }
 

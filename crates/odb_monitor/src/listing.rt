@@ -6,14 +6,14 @@ ghost use Rattle.odb_monitor.specs.Listing.{rows_text};
 ghost use Rattle.odb_monitor.specs.Represented.Listing.{listing_in, shown_tokens, side_tokens};
 ghost use Rattle.odb_monitor.specs.Represented.Members.{AreRows};
 ghost use Rattle.odb_monitor.specs.Represented.Sides.{line_at, sides_in};
-ghost use Rattle.odb_request.specs.Represented.Kind.{notation_of};
+ghost use Rattle.odb_request.specs.Represented.Notation.{notation_of};
 
 use crate::comparison::Comparison;
 use crate::layout::Layout;
 use crate::sides::Sides;
 use json::Token;
 use odb_print::Printer;
-use odb_request::Kind;
+use odb_request::Notation;
 use std::alloc::{AllocError, Global};
 use std::marker::Model;
 
@@ -21,30 +21,34 @@ use std::marker::Model;
 #[derive(Drop)]
 pub struct Listing<'r> {
     comparison: Comparison<'r>,
-    kind: Kind,
+    notation: Notation,
     sides: Vec<Sides<'r>>,
 }
 
 impl<'r> Model for Listing<'r> {
     ghost use Rattle.odb_monitor.specs.Listing as model;
     ghost use Rattle.odb_monitor.specs.Represented.Listing.{listing_code, listing_in};
-    ghost use Rattle.odb_request.specs.Represented.Kind.{notation_of};
+    ghost use Rattle.odb_request.specs.Represented.Notation.{notation_of};
 
     ghost Value = { model.Listing };
 
     ghost coded = { listing_code };
 
-    ghost view = { λ l. listing_in (notation_of l.kind) l.comparison l.sides.items };
+    ghost view = { λ l. listing_in (notation_of l.notation) l.comparison l.sides.items };
 }
 
 impl<'r> Listing<'r> {
     /// Puts together by what rows are compared, how they are printed, and the rows. O(1).
-    pub(crate) fn new(comparison: Comparison<'r>, kind: Kind, sides: Vec<Sides<'r>>) -> Listing<'r>
-        ensures { result ≡ listing_in (notation_of kind) comparison.entry sides.entry.items }
+    pub(crate) fn new(
+        comparison: Comparison<'r>,
+        notation: Notation,
+        sides: Vec<Sides<'r>>,
+    ) -> Listing<'r>
+        ensures { result ≡ listing_in (notation_of notation) comparison.entry sides.entry.items }
     {
         Listing {
             comparison,
-            kind,
+            notation,
             sides,
         }
     }
@@ -68,7 +72,7 @@ impl<'r> Listing<'r> {
     {
         let sides = between(self.sides.as_slice(), first, count);
         let shape = self.comparison.request.shape();
-        let layout = Layout::of(alloc, shape, self.kind, self.comparison.first);
+        let layout = Layout::of(alloc, shape, self.notation, self.comparison.first);
         let mut out = Printer::new(alloc);
         let put = put_sides(&self.comparison, &layout, sides, &mut out);
         drop(layout);

@@ -11,7 +11,7 @@ ghost use Rattle.odb_monitor.specs.Represented.Line.{line_in};
 ghost use Rattle.odb_monitor.specs.Represented.Part.{changes_shown, is_silent, part_of, part_tokens};
 ghost use Rattle.odb_monitor.specs.Represented.Sides.{line_at, sides_in, table_then};
 ghost use Rattle.odb_monitor.specs.Represented.Sought.{AreSought};
-ghost use Rattle.odb_request.specs.Represented.Kind.{notation_of};
+ghost use Rattle.odb_request.specs.Represented.Notation.{notation_of};
 ghost use Rattle.odb_request.specs.Request as model_request;
 ghost use Rattle.odb_tables.specs.Database as model_table;
 ghost use Rattle.odb_tables.specs.Represented.Table.{listed};
@@ -27,7 +27,7 @@ use crate::sides::{Sides, add_others, changed, fresh, keys_of};
 use crate::told::Told;
 use odb_atoms::Row;
 use odb_print::Printer;
-use odb_request::{Kind, Request};
+use odb_request::{Notation, Request};
 use odb_tables::{RowChange, Rows, TableChange};
 use rayon::prelude::*;
 use std::alloc::{AllocError, Global};
@@ -113,11 +113,11 @@ impl<'a> Part<'a> {
     pub(crate) fn put(
         &self,
         alloc: Global,
-        kind: Kind,
+        notation: Notation,
         first: bool,
         out: &mut Printer,
     ) -> Result<bool, AllocError>
-        ensures tokens { OnOk result (out.new ≡ out.old ++ part_tokens (notation_of kind) first self.now) }
+        ensures tokens { OnOk result (out.new ≡ out.old ++ part_tokens (notation_of notation) first self.now) }
         ensures shown { IfOk result (λ shown. shown ≡ not (is_silent first self.now)) }
     {
         if self.is_told() {
@@ -125,7 +125,7 @@ impl<'a> Part<'a> {
         }
         let lines = self.lines(alloc, first)?;
         let shape = self.bare.request.shape();
-        let layout = Layout::of(alloc, shape, kind, first);
+        let layout = Layout::of(alloc, shape, notation, first);
         let put = layout.put_table(out, shape.table_schema().name(), &lines);
         drop(layout);
         put?;
@@ -144,6 +144,11 @@ impl<'a> Part<'a> {
             Told::Asked => true,
             Told::Under(_) => false,
         }
+    }
+
+    /// Counts the rows that changed since its client was told. O(1). No contract speaks of it.
+    pub(crate) fn changed_rows(&self) -> usize {
+        rows_of(&self.bare.changes).len()
     }
 
     /// Returns whether some row is shown.
@@ -170,10 +175,10 @@ impl<'a> Part<'a> {
         &self,
         rt: &R,
         alloc: Global,
-        kind: Kind,
+        notation: Notation,
         first: bool,
     ) -> Result<Listing<'_>, AllocError>
-        ensures { IfOk result (λ listing. listed_tokens listing ≡ part_tokens (notation_of kind) first self.now) }
+        ensures { IfOk result (λ listing. listed_tokens listing ≡ part_tokens (notation_of notation) first self.now) }
     {
         let comparison = Comparison::of(alloc, first, self.bare.told, self.bare.request);
         let mut sides = sides_of(
@@ -184,7 +189,7 @@ impl<'a> Part<'a> {
             &self.bare.rows,
         )?;
         sort_by_several(rt, &mut sides);
-        Ok(Listing::new(comparison, kind, sides))
+        Ok(Listing::new(comparison, notation, sides))
     }
 
     /// Returns what is shown of the table, by ascending identifier.

@@ -5,6 +5,7 @@ pub mod Faults
 pub mod Fits
 pub mod Insertions
 pub mod Inserts
+pub mod KeptPlaces
 pub mod Layouts
 pub mod Loops
 pub mod Mutates

@@ -14,7 +14,7 @@ use std::marker::Model;
 
 /// What is asked of the rows of a table with these columns, as a draft has them.
 #[derive(Drop)]
-pub(crate) struct Rows<'a> {
+pub(crate) struct SelectedRows<'a> {
     pub declared: &'a [Column],
     pub table: TableId,
     pub draft: &'a Draft<'a>,
@@ -43,7 +43,7 @@ impl Meaning {
     }
 
     /// Returns what is said by the text of rows.
-    pub(crate) fn of_rows(_rows: &Rows<'_>) -> Meaning
+    pub(crate) fn of_rows(_rows: &SelectedRows<'_>) -> Meaning
         ensures { result.said ≡ rows_of _rows.entry.now }
     {
         Meaning {}

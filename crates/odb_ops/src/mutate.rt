@@ -228,16 +228,30 @@ fn earlier(fault: Option<MutationFault>, other: Option<MutationFault>) -> Option
     }
 }
 
-/// Mutates the row of an identifier, if the table has it. A row that has a fault stays as it is.
+/// Returns the places of the columns that the mutations are of.
+fn places_of(alloc: Global, mutations: &[Mutation]) -> Result<Vec<usize>, AllocError>
+    ensures { IfOk result (λ places. places.items ≡ map (λ m. m.column) mutations.now) }
+{
+    let mut places = Vec::with_capacity(alloc, mutations.len())?;
+    for mutation in mutations {
+        places.push(mutation.column())?;
+    }
+    Ok(places)
+}
+
+/// Mutates the row of an identifier, if the table has it. A row that has a fault stays as it is. The places are those of the
+/// columns that the runs are of.
 fn mutate_one(
     target: &Target<'_>,
     draft: &mut Draft,
     uuid: Uuid,
     runs: &[Run<'_>],
+    places: &[usize],
 ) -> Result<Option<MutationFault>, AllocError>
     requires inside { target.now.table < length draft.old.old }
     requires fit { AllFit target.now.columns.now (table_at draft.old.now target.now.table) }
     requires suit { are_taken target.now.columns.now (all_of runs.now) ≡ true }
+    requires places { places.now ≡ map (λ m. m.column) (all_of runs.now) }
     ensures row { OnOk result (draft.new
         ≡ rewritten (λ r. result_ok (mutated target.entry.now.columns.now (all_of runs.entry.now) r)) target.entry.now.table (uuid_of uuid)
         draft.old) }
@@ -251,7 +265,7 @@ fn mutate_one(
     };
     match mutated_row(target.alloc, row, target.columns, runs)? {
         Ok(row) => {
-            draft.put(target.table, uuid, row)?;
+            draft.put_over(target.table, uuid, row, places)?;
             Ok(None)
         }
         Err(fault) => Ok(Some(fault)),
@@ -264,10 +278,12 @@ fn mutate_all(
     draft: &mut Draft,
     uuids: &[Uuid],
     runs: &[Run<'_>],
+    places: &[usize],
 ) -> Result<Option<MutationFault>, AllocError>
     requires inside { target.now.table < length draft.old.old }
     requires fit { AllFit target.now.columns.now (table_at draft.old.now target.now.table) }
     requires suit { are_taken target.now.columns.now (all_of runs.now) ≡ true }
+    requires places { places.now ≡ map (λ m. m.column) (all_of runs.now) }
     ensures rows { OnOk result (draft.new
         ≡ all_rewritten (λ r. result_ok (mutated target.entry.now.columns.now (all_of runs.entry.now) r)) target.entry.now.table
         (map uuid_of uuids.now) draft.old) }
@@ -278,7 +294,7 @@ fn mutate_all(
 {
     let mut first = None;
     for uuid in uuids {
-        let fault = mutate_one(target, draft, *uuid, runs)?;
+        let fault = mutate_one(target, draft, *uuid, runs, places)?;
         first = earlier(first, fault);
     }
     Ok(first)
@@ -321,7 +337,8 @@ pub fn mutate(
     let found = draft.matching(target.table, &asked.conditions)?;
     let uuids = found.as_slice();
     let runs = runs_of(target.alloc, target.columns, asked.mutations.as_slice())?;
-    match mutate_all(target, draft, uuids, runs.as_slice())? {
+    let places = places_of(target.alloc, asked.mutations.as_slice())?;
+    match mutate_all(target, draft, uuids, runs.as_slice(), places.as_slice())? {
         None => Ok(results::count(target.alloc, uuids)?),
         Some(fault) => Err(OpFault::Failed(error_in(fault))),
     }

@@ -12,7 +12,7 @@ ghost use Rattle.odb_tables.specs.Database.{Table};
 ghost use Rattle.odb_schema.specs.Json.{null, object_of, of_integer};
 ghost use Rattle.odb_schema.specs.Notation as notation;
 
-use crate::meaning::{Meaning, Rows};
+use crate::meaning::{Meaning, SelectedRows};
 use odb_atoms::Error;
 use odb_schema::write_uuid;
 use serde_json::{Map, Value, json};
@@ -46,7 +46,7 @@ impl Model for OperationResult {
 
 impl OperationResult {
     /// Takes the text of these rows. O(1).
-    pub(crate) fn of_rows(text: Vec<u8>, rows: &Rows<'_>) -> OperationResult
+    pub(crate) fn of_rows(text: Vec<u8>, rows: &SelectedRows<'_>) -> OperationResult
         requires { text.items ≡ compact_text (rows_of rows.now) }
         ensures { result ≡ rows_of rows.entry.now }
     {

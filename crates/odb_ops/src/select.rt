@@ -16,7 +16,7 @@ ghost use Rattle.odb_tables.specs.Represented.Table.{listed};
 use crate::contents::{content_of, is_first};
 use crate::context::Target;
 use crate::layout::{Layout, put_row};
-use crate::meaning::Rows;
+use crate::meaning::SelectedRows;
 use crate::results::OperationResult;
 use json::Token;
 use odb_atoms::{Row, Value};
@@ -47,7 +47,7 @@ pub fn select(
     let mut out = Printer::new(target.alloc);
     let layout = Layout::new(target, asked.columns.as_slice())?;
     put_result(&mut out, &layout, draft, asked)?;
-    let rows = Rows {
+    let rows = SelectedRows {
         declared: target.columns,
         table: target.table,
         draft,

@@ -44,7 +44,19 @@ fn rewrite(
     };
     let mut row = row.try_copy(alloc)?;
     write(alloc, &mut row, given)?;
-    draft.put(table, uuid, row)
+    let places = places_of(alloc, given)?;
+    draft.put_over(table, uuid, row, places.as_slice())
+}
+
+/// Returns the places of the columns.
+fn places_of(alloc: Global, given: &[(ColumnId, Value)]) -> Result<Vec<usize>, AllocError>
+    ensures { IfOk result (λ places. places.items ≡ map (λ cell. cell.0) given.now) }
+{
+    let mut places = Vec::with_capacity(alloc, given.len())?;
+    for cell in given {
+        places.push(cell.0.place())?;
+    }
+    Ok(places)
 }
 
 /// Does the same for each of these rows.

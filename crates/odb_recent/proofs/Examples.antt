@@ -1,4 +1,4 @@
--- Commits of which it can be computed what is kept, and what an identifier names.
+-- Commits of which it can be computed which contents are findable, and what an identifier names.
 use Rattle.std.specs.Prelude.{◌≡◌, ℕ, pos, List, [], ◌∷◌, Some, None}
 use mathlib.Core.Path.{refl}
 use Rattle.odb_atoms.proofs.Examples.{values_compute}
@@ -9,7 +9,7 @@ use Rattle.odb_atoms.specs.Uuid.{Uuid, uuid_from, zero_uuid}
 use Rattle.odb_atoms.specs.Value.{atoms, set_of}
 use Rattle.odb_tables.specs.Change.{change, change_between}
 use Rattle.odb_tables.specs.Database.{Db}
-use Rattle.odb_recent.specs.Kept.{kept_of}
+use Rattle.odb_recent.specs.Findable.{findable}
 use Rattle.odb_recent.specs.Recent.{commits_ago, committed, number_of, Recent, recent_of}
 use Rattle.odb_recent.specs.Undo.{table_ago}
 
@@ -35,15 +35,15 @@ another_run_is_not : commits_ago 2 7 3 (number_of 8 3) ≡ None
 unfolding values_compute
 another_run_is_not = refl
 
-with_none_kept_nothing_is : commits_ago 0 7 3 (number_of 7 3) ≡ None
+with_none_findable_nothing_is : commits_ago 0 7 3 (number_of 7 3) ≡ None
 unfolding values_compute
-with_none_kept_nothing_is = refl
+with_none_findable_nothing_is = refl
 
 zero_is_no_commit : commits_ago 100 0 3 zero_uuid ≡ None
 unfolding values_compute
 zero_is_no_commit = refl
 
--- ---- what is kept: a row is inserted, then changed, then deleted
+-- ---- what is findable: a row is inserted, then changed, then deleted
 
 row : ℕ → Row
 row n = record { version = uuid_from n; columns = set_of (atoms (integer (pos n) ∷ [])) ∷ [] }
@@ -72,17 +72,17 @@ third = with_rows ((v, row 5) ∷ [])
 after_three : ℕ → Recent
 after_three most = committed (change_between second third) (committed (change_between first second) (committed (change_between before first) (recent_of 0 most)))
 
-all_are_kept : kept_of third (after_three 100).undos ≡ third ∷ second ∷ first ∷ before ∷ []
+all_are_findable : findable third (after_three 100).undos ≡ third ∷ second ∷ first ∷ before ∷ []
 unfolding values_compute row with_rows u v before first second third after_three
-all_are_kept = refl
+all_are_findable = refl
 
-two_are_kept : kept_of third (after_three 2).undos ≡ third ∷ second ∷ []
+two_are_findable : findable third (after_three 2).undos ≡ third ∷ second ∷ []
 unfolding values_compute row with_rows u v before first second third after_three
-two_are_kept = refl
+two_are_findable = refl
 
-one_is_kept : (after_three 1).undos ≡ []
+one_is_findable : (after_three 1).undos ≡ []
 unfolding values_compute row with_rows u v before first second third after_three
-one_is_kept = refl
+one_is_findable = refl
 
 -- of a row that came and went nothing is left to tell
 came_and_went : change (table_ago 0 (after_three 100).undos (finite.from_entries ((v, row 5) ∷ []))) (finite.from_entries ((v, row 5) ∷ [])) ≡ finite.empty

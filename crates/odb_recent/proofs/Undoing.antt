@@ -1,4 +1,4 @@
--- What a change replaced leads back, and what is kept are the contents that the last commits made.
+-- What a change replaced leads back, and the contents that the last commits made are findable.
 use Rattle.std.proofs.Common.{◌≡◌, ℕ, zero, suc, ◌+◌, ◌-◌, ◌<◌, ◌≤◌, ◌==◌, arith, Bool, true, false, cond, nat_lt, List, [], ◌∷◌, ◌++◌, length, slice_get, take, unwrap_or, Option, Some, None, option_and_then, refl, sym, ap, subst, ◌∙◌}
 use Rattle.std.proofs.lemmas.Bool.Decides.{nat_tests}
 use Rattle.std.proofs.lemmas.List.{nil_from_length}
@@ -12,7 +12,7 @@ use Rattle.odb_atoms.proofs.Atoms.{uuid_cmp_total, uuid_cmp-IsAntisymmetric}
 use Rattle.odb_atoms.proofs.FinMaps.{get-combine, get-empty, get-entries, get-map_entries, same_map}
 use Rattle.odb_tables.specs.Change.{Changes, after, all_changed_by, before, changed_by}
 use Rattle.odb_tables.specs.Database.{Db, Table, table_at}
-use Rattle.odb_recent.specs.Kept.{ContentsAreKept, ContentsAreThere, TablesAreThoseOfContents, UndoLeadsBack, kept_of}
+use Rattle.odb_recent.specs.Findable.{ContentsAreFindable, ContentsAreThere, TablesAreThoseOfContents, UndoLeadsBack, findable}
 use Rattle.odb_recent.specs.Undo.{Undo, all_undone_by, old_or, olds, olds_at, table_ago, undo_from, undo_of, undone_by, undone_from}
 
 -- ---- of one table
@@ -103,30 +103,30 @@ undo_leads_back db cs is = back_from 0 db cs (undo_of cs) is.0 (λ j m e. found 
 
 -- ---- contents
 
-kept-take : (db : Db) (us : List Undo) (n : ℕ) → kept_of db (take n us) ≡ take (suc n) (kept_of db us)
-kept-take db [] zero = refl
-kept-take db (u ∷ us) zero = refl
-kept-take db [] (suc n) = refl
-kept-take db (u ∷ us) (suc n) = ap (λ rest. db ∷ rest) (kept-take (all_undone_by db u) us n)
+findable-take : (db : Db) (us : List Undo) (n : ℕ) → findable db (take n us) ≡ take (suc n) (findable db us)
+findable-take db [] zero = refl
+findable-take db (u ∷ us) zero = refl
+findable-take db [] (suc n) = refl
+findable-take db (u ∷ us) (suc n) = ap (λ rest. db ∷ rest) (findable-take (all_undone_by db u) us n)
 
-kept-more : (db new : Db) (u : Undo) (us : List Undo) (n : ℕ) → all_undone_by new u ≡ db → kept_of new (take n (u ∷ us)) ≡ take (suc n) (new ∷ kept_of db us)
-kept-more db new u us zero is = refl
-kept-more db new u us (suc n) is = ap (λ rest. new ∷ rest) (ap (λ (x : Db). kept_of x (take n us)) is ∙ kept-take db us n)
+findable-more : (db new : Db) (u : Undo) (us : List Undo) (n : ℕ) → all_undone_by new u ≡ db → findable new (take n (u ∷ us)) ≡ take (suc n) (new ∷ findable db us)
+findable-more db new u us zero is = refl
+findable-more db new u us (suc n) is = ap (λ rest. new ∷ rest) (ap (λ (x : Db). findable x (take n us)) is ∙ findable-take db us n)
 
-pub contents_are_kept : ContentsAreKept
-contents_are_kept db cs r is = by (nat_lt r.most 2) refl
+pub contents_are_findable : ContentsAreFindable
+contents_are_findable db cs r is = by (nat_lt r.most 2) refl
   where
     new : Db
     new = all_changed_by db cs
 
     Goal : Undo → ℕ → Type 0
-    Goal u n = kept_of new (take n (u ∷ r.undos)) ≡ take (suc n) (new ∷ kept_of db r.undos)
+    Goal u n = findable new (take n (u ∷ r.undos)) ≡ take (suc n) (new ∷ findable db r.undos)
 
     by : (b : Bool) → nat_lt r.most 2 ≡ b → Goal (cond b [] (undo_of cs)) (r.most - 1)
     by true few = let none : 0 ≡ r.most - 1 = grind (arith, nat_tests, few) in subst (λ n. Goal [] n) none refl
-    by false few = kept-more db new (undo_of cs) r.undos (r.most - 1) (undo_leads_back db cs is)
+    by false few = findable-more db new (undo_of cs) r.undos (r.most - 1) (undo_leads_back db cs is)
 
-there : (d db : Db) (us : List Undo) (n : ℕ) → n ≤ length us → slice_get (kept_of db us) n ≡ Some (unwrap_or (slice_get (kept_of db us) n) d)
+there : (d db : Db) (us : List Undo) (n : ℕ) → n ≤ length us → slice_get (findable db us) n ≡ Some (unwrap_or (slice_get (findable db us) n) d)
 there d db [] zero few = refl
 there d db (u ∷ us) zero few = refl
 there d db [] (suc n) few = absurd (omega (arith, few))
@@ -146,7 +146,7 @@ table-undone j k m [] u is low = absurd (omega (arith, low))
 table-undone zero k m (t ∷ ts) u is low = let here : k ≡ m = omega (arith, is) in ap (λ p. undone_by t (olds_at u p)) here
 table-undone (suc j) k m (t ∷ ts) u is low = table-undone j (suc k) m ts u (omega (arith, is)) (omega (arith, low))
 
-table_of : (d db : Db) (us : List Undo) (n k : ℕ) → n ≤ length us → k < length db → table_at (unwrap_or (slice_get (kept_of db us) n) d) k ≡ table_ago k (take n us) (table_at db k)
+table_of : (d db : Db) (us : List Undo) (n k : ℕ) → n ≤ length us → k < length db → table_at (unwrap_or (slice_get (findable db us) n) d) k ≡ table_ago k (take n us) (table_at db k)
 table_of d db [] zero k few low = refl
 table_of d db (u ∷ us) zero k few low = refl
 table_of d db [] (suc n) k few low = absurd (omega (arith, few))

@@ -1,4 +1,4 @@
 pub mod Undo
 pub mod Recent
-pub mod Kept
+pub mod Findable
 pub mod Represented

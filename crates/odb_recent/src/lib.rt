@@ -4,13 +4,13 @@
 //! unless its own page says otherwise. A call whose result has no such error takes no memory.
 #![tactic(auto)]
 
-ghost use Rattle.odb_recent.specs.Kept.{ContentsAreKept, ContentsAreThere, TablesAreThoseOfContents, UndoLeadsBack};
+ghost use Rattle.odb_recent.specs.Findable.{ContentsAreFindable, ContentsAreThere, TablesAreThoseOfContents, UndoLeadsBack};
 
 mod merged;
 mod old_row;
-mod old_rows;
 mod recent;
 mod refusal;
+mod table_undo;
 mod undo;
 
 pub use recent::Recent;
@@ -21,9 +21,9 @@ pub use undo::Undo;
 pub fn law()
     // What a change replaced leads back from the database after it to the one before it.
     ensures back { UndoLeadsBack }
-    // A commit keeps the content that it makes before those that were kept, of which the earliest goes.
-    ensures kept { ContentsAreKept }
-    // What `Recent::find` gives is the place of a content that is kept.
+    // After a commit the content that it made comes before those that were findable, of which the earliest goes.
+    ensures findable { ContentsAreFindable }
+    // What `Recent::find` gives is the place of a content that is findable.
     ensures there { ContentsAreThere }
     // What `Recent::since` calls a table that many commits ago is the table of that content.
     ensures tables { TablesAreThoseOfContents }

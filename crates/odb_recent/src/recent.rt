@@ -94,11 +94,11 @@ impl Recent {
         Uuid::from_u64_pair(self.run, self.commits)
     }
 
-    /// Returns how many commits ago the one of this identifier was, if the content that it made is kept: if it is
+    /// Returns how many commits ago the one of this identifier was, if the content that it made is findable: if it is
     /// one of this run and of the last `most`. O(1).
     pub fn find(&self, number: Uuid) -> Option<usize>
         ensures found { result ≡ commits_ago self.now.most self.now.run self.now.commits (uuid_of number) }
-        ensures kept { IfSome result (λ ago. ago ≤ length self.now.undos) }
+        ensures findable { IfSome result (λ ago. ago ≤ length self.now.undos) }
     {
         let number = number.as_u128();
         let commit = number % NUMBERS;
@@ -115,7 +115,7 @@ impl Recent {
         Some(ago as usize)
     }
 
-    /// Shares what the change replaces, to be handed to `note` once it is made: nothing, where no content but the newest
+    /// Shares what the change replaces, to be handed to `push` once it is made: nothing, where no content but the newest
     /// is to be found. It is refused where there were 2^64 - 1 commits, and else where memory is. O(tables) and
     /// O(rows changed).
     pub fn prepare(&self, change: &ChangeSet) -> Result<Undo, Refusal>
@@ -132,18 +132,19 @@ impl Recent {
         Ok(Undo::of(self.alloc, change)?)
     }
 
-    /// Notes a commit that replaced this. Where that is one more than can be found, what the earliest of them replaced is
-    /// dropped. It can't be refused. O(1), and O(the rows that are dropped).
-    pub fn note(&mut self, undo: Undo)
+    /// Counts a commit, and puts what it replaced before what earlier ones did. Where that is one more than can be
+    /// found, what the earliest of them replaced is dropped. It can't be refused. O(1), and O(the rows that are
+    /// dropped).
+    pub fn push(&mut self, undo: Undo)
         requires { self.old.commits < 2 ^ 64 - 1 }
         ensures { self.new ≡ noted undo self.old }
     {
         self.commits += 1;
-        keep(&mut self.undos, self.most.saturating_sub(1), undo);
+        push_at_most(&mut self.undos, self.most.saturating_sub(1), undo);
     }
 
     /// Makes what leads from the table as it was so many commits ago, where it is this now: each row that differs, once.
-    /// Of commits that aren't kept nothing is undone; `find` names none. On the average O(k) for k rows of the table that
+    /// Of contents that aren't findable nothing is undone; `find` names none. On the average O(k) for k rows of the table that
     /// changed since, each as often as it changed, and for each commit O(tables that it changed).
     pub fn since(&self, ago: usize, table: TableId, now: &Table) -> Result<TableChange, AllocError>
         ensures { IfOk result (λ made. made ≡ change (table_ago table (take ago self.now.undos) now.now) now.now) }
@@ -166,7 +167,7 @@ impl Recent {
 }
 
 /// Puts what a commit replaced before the others, of which as many stay as there is room for.
-fn keep(undos: &mut VecDeque<Undo>, most: usize, undo: Undo)
+fn push_at_most(undos: &mut VecDeque<Undo>, most: usize, undo: Undo)
     requires { most ≤ deque_capacity undos.old }
     ensures items { undos.new.items ≡ take most (undo ∷ undos.old.items) }
     ensures room { most ≤ deque_capacity undos.new }

@@ -4,7 +4,7 @@ ghost use Rattle.odb_atoms.specs.FinMap as finite;
 ghost use Rattle.odb_recent.specs.Undo.{olds_at, undo_at, undo_of};
 
 use crate::old_row::OldRow;
-use crate::old_rows::OldRows;
+use crate::table_undo::TableUndo;
 use odb_schema::TableId;
 use odb_tables::{ChangeSet, TableChange};
 use std::alloc::{AllocError, Global};
@@ -13,7 +13,7 @@ use std::marker::Model;
 /// What a commit replaced: of each table that it changed, what the rows were. Rows are shared, and not copied.
 #[derive(Drop)]
 pub struct Undo {
-    tables: Vec<OldRows>,
+    tables: Vec<TableUndo>,
 }
 
 impl Model for Undo {
@@ -65,7 +65,7 @@ impl Undo {
 /// Adds what the change of a table replaces, if it changes a row.
 fn add_rows(
     alloc: Global,
-    tables: &mut Vec<OldRows>,
+    tables: &mut Vec<TableUndo>,
     table: TableId,
     change: &TableChange,
 ) -> Result<(), AllocError>
@@ -74,5 +74,5 @@ fn add_rows(
     if change.is_empty() {
         return Ok(());
     }
-    Ok(tables.push(OldRows::of(alloc, table, change)?)?)
+    Ok(tables.push(TableUndo::of(alloc, table, change)?)?)
 }

@@ -1,7 +1,7 @@
 -- What the types of the code stand for.
 pub mod Change
 pub mod Codes
-pub mod Kind
+pub mod Notation
 pub mod Parts
 pub mod Request
 pub mod Select

@@ -5,12 +5,12 @@ ghost use Rattle.serde_json.specs.View.{items_view, members_view, view};
 ghost use Rattle.odb_atoms.specs.First.{each};
 ghost use Rattle.odb_cond.specs.Represented.Filter.{member_of};
 ghost use Rattle.odb_json.specs.Represented.Fault.{Reads};
-ghost use Rattle.odb_request.specs.Represented.Kind.{notation_of};
+ghost use Rattle.odb_request.specs.Represented.Notation.{notation_of};
 ghost use Rattle.odb_request.specs.Represented.Parts.{read_condition};
 ghost use Rattle.odb_request.specs.Requests as model;
 ghost use Rattle.odb_schema.specs.Json.{get_member, items_list};
 
-use crate::kind::Kind;
+use crate::notation::Notation;
 use odb_cond::{Filter, Member};
 use odb_json::{OpFault, read_array, read_clause};
 use odb_schema::{TableSchema, member};
@@ -70,14 +70,14 @@ pub fn read_where(
     alloc: Global,
     members: &Map<String, Value>,
     table: &TableSchema,
-    kind: Kind,
+    notation: Notation,
 ) -> Result<Filter, OpFault>
     ensures { Reads (λ filter. filter) result
-        (model.read_where_of (notation_of kind) table.now.columns
+        (model.read_where_of (notation_of notation) table.now.columns
         (members_view members.now.entries)) }
 {
-    match kind {
-        Kind::Monitor => Ok(Filter::new(alloc, Vec::new(alloc))?),
-        Kind::MonitorCond => read_filter(alloc, members, table),
+    match notation {
+        Notation::Monitor => Ok(Filter::new(alloc, Vec::new(alloc))?),
+        Notation::MonitorCond => read_filter(alloc, members, table),
     }
 }

@@ -7,7 +7,7 @@ ghost use Rattle.odb_atoms.specs.Error.{unknown_table};
 ghost use Rattle.odb_atoms.specs.First.{each};
 ghost use Rattle.odb_json.specs.Represented.Fault.{Gives, Reads};
 ghost use Rattle.odb_request.specs.Represented.Change.{change_of};
-ghost use Rattle.odb_request.specs.Represented.Kind.{notation_of};
+ghost use Rattle.odb_request.specs.Represented.Notation.{notation_of};
 ghost use Rattle.odb_request.specs.Represented.Parts.{read_asked};
 ghost use Rattle.odb_request.specs.Represented.Shape.{table_name};
 ghost use Rattle.odb_request.specs.Requests as model;
@@ -17,9 +17,9 @@ ghost use Rattle.odb_schema.specs.Schema.{table_place};
 use crate::change::Change;
 use crate::columns::read_monitored;
 use crate::filter::{read_filter, read_where};
-use crate::kind::Kind;
 use crate::leaf::{SYNTAX, request_object};
 use crate::names::are_named;
+use crate::notation::Notation;
 use crate::request::Request;
 use crate::select::read_select;
 use crate::shape::{Shape, table_at};
@@ -43,14 +43,14 @@ fn read_table(schema: &Schema, name: &str) -> Result<TableId, OpFault>
     }
 }
 
-/// Refuses a member that a request of the kind doesn't have.
-fn no_unknown(kind: Kind, members: &Map<String, Value>) -> Result<(), OpFault>
+/// Refuses a member that a request in the notation doesn't have.
+fn no_unknown(notation: Notation, members: &Map<String, Value>) -> Result<(), OpFault>
     ensures { Gives (λ none. none) result
-        (model.no_other (model.known_members (notation_of kind)) (members_view members.now.entries)) }
+        (model.no_other (model.known_members (notation_of notation)) (members_view members.now.entries)) }
 {
-    match kind {
-        Kind::Monitor => no_other(&["columns", "select"], members),
-        Kind::MonitorCond => no_other(&["columns", "where", "select"], members),
+    match notation {
+        Notation::Monitor => no_other(&["columns", "select"], members),
+        Notation::MonitorCond => no_other(&["columns", "where", "select"], members),
     }
 }
 
@@ -60,18 +60,18 @@ fn read_asked(
     schema: &Arc<Schema>,
     id: TableId,
     members: &Map<String, Value>,
-    kind: Kind,
+    notation: Notation,
 ) -> Result<Request, OpFault>
     requires { id < length (arc_value schema.now).tables }
     ensures { Reads (λ request. request) result
-        (read_asked (arc_value schema.now) (notation_of kind) (table_name (arc_value schema.now) id) id
+        (read_asked (arc_value schema.now) (notation_of notation) (table_name (arc_value schema.now) id) id
         (members_view members.now.entries)) }
 {
     let table = table_at(schema, id);
     let columns = read_monitored(alloc, table, members)?;
-    let filter = read_where(alloc, members, table, kind)?;
+    let filter = read_where(alloc, members, table, notation)?;
     let select = read_select(members)?;
-    no_unknown(kind, members)?;
+    no_unknown(notation, members)?;
     let shape = Shape::new(schema.clone()?, id, columns, select);
     Ok(Request::new(alloc, shape, filter)?)
 }
@@ -82,14 +82,14 @@ fn read_request(
     name: &str,
     value: &Value,
     schema: &Arc<Schema>,
-    kind: Kind,
+    notation: Notation,
 ) -> Result<Request, OpFault>
     ensures { Reads (λ request. request) result
-        (model.read_request (arc_value schema.now) (notation_of kind) (name.now, view value.now)) }
+        (model.read_request (arc_value schema.now) (notation_of notation) (name.now, view value.now)) }
 {
     let id = read_table(schema, name)?;
     let members = request_object(value)?;
-    read_asked(alloc, schema, id, members, kind)
+    read_asked(alloc, schema, id, members, notation)
 }
 
 /// Reads the members of an object of requests, by ascending table name.
@@ -97,20 +97,20 @@ fn read_all(
     alloc: Global,
     members: &Map<String, Value>,
     schema: &Arc<Schema>,
-    kind: Kind,
+    notation: Notation,
 ) -> Result<Vec<Request>, OpFault>
     ensures { Reads (λ v. v.items) result
-        (each (model.read_request (arc_value schema.now) (notation_of kind))
+        (each (model.read_request (arc_value schema.now) (notation_of notation))
         (members_list (members_view members.now.entries))) }
 {
     let mut requests = Vec::with_capacity(alloc, members.len())?;
     for (name, value) in members.iter() {
-        requests.push(read_request(alloc, name.as_str(), value, schema, kind)?)?;
+        requests.push(read_request(alloc, name.as_str(), value, schema, notation)?)?;
     }
     Ok(requests)
 }
 
-/// Reads the requests of a monitor, `{table: request}`, by ascending table name, where `kind` says what
+/// Reads the requests of a monitor, `{table: request}`, by ascending table name, where `notation` says what
 /// asks (RFC 7047, section 4.1.5; ovsdb-server(7), 4.1.12).
 ///
 /// The first of these faults is returned: an object, else `syntax error`; then table by table by
@@ -136,13 +136,13 @@ pub fn read_requests(
     alloc: Global,
     json: &Value,
     schema: &Arc<Schema>,
-    kind: Kind,
+    notation: Notation,
 ) -> Result<Vec<Request>, OpFault>
     ensures { Reads (λ v. v.items) result
-        (model.read_requests (arc_value schema.now) (notation_of kind) (view json.now)) }
+        (model.read_requests (arc_value schema.now) (notation_of notation) (view json.now)) }
 {
     let members = read_object(json)?;
-    let requests = read_all(alloc, members, schema, kind)?;
+    let requests = read_all(alloc, members, schema, notation)?;
     if !are_named(&requests) {
         return Err(SYNTAX);
     }

@@ -13,9 +13,9 @@ use Rattle.odb_schema.specs.Schema.{Schema}
 use Rattle.odb_service.specs.Server.{served_by}
 use Rattle.odb_service.specs.Session.{Monitor, at_first, leaves, refilter}
 use Rattle.odb_sessions.specs.Asked.{is_same}
-use Rattle.odb_round.specs.Foreseen.{Ahead, as_told, held_ahead, marks_ahead, seen_ahead}
+use Rattle.odb_round.specs.Foreseen.{Ahead, as_told, marked_ahead, marks_ahead, seen_ahead}
 use Rattle.odb_sessions.specs.Filtered.{Filters}
-use Rattle.odb_sessions.specs.Held.{Held, Sessions, marks_in, monitor_of}
+use Rattle.odb_sessions.specs.Marked.{MarkedMonitor, Sessions, marks_in, monitor_of}
 use Rattle.odb_round.specs.Planned.{Due, due, update_of}
 use Rattle.odb_sessions.specs.Represented.Under.{filters_in, item_in}
 use Rattle.odb_sessions.specs.Tied.{AreLive}
@@ -30,46 +30,46 @@ use Rattle.odb_tables.specs.Database.{Db}
 
 -- ---- marks
 
-pub marks_told : (xs : List Held) → marks_ahead (map as_told xs) ≡ flat_map marks_in xs
+pub marks_told : (xs : List MarkedMonitor) → marks_ahead (map as_told xs) ≡ flat_map marks_in xs
 marks_told [] = refl
 marks_told (x ∷ xs) = ap (λ ms. marks_in x ++ ms) (marks_told xs)
 
-pub seen_told : (db : Db) (xs : List Held) → map (seen_ahead db) (map as_told xs) ≡ map monitor_of xs
+pub seen_told : (db : Db) (xs : List MarkedMonitor) → map (seen_ahead db) (map as_told xs) ≡ map monitor_of xs
 seen_told db [] = refl
 seen_told db (x ∷ xs) = ap (λ ms. monitor_of x ∷ ms) (seen_told db xs)
 
-pub held_told : (xs : List Held) → held_ahead (map as_told xs) ≡ xs
+pub held_told : (xs : List MarkedMonitor) → marked_ahead (map as_told xs) ≡ xs
 held_told [] = refl
 held_told (x ∷ xs) = ap (λ hs. x ∷ hs) (held_told xs)
 
 -- where the monitor at a place is foreseen otherwise
-pub still_held : (xs : List Ahead) (i : ℕ) (d y : Ahead) → i < length xs → y.held ≡ (get_or xs i d).held → held_ahead (slice_set xs i y) ≡ held_ahead xs
+pub still_held : (xs : List Ahead) (i : ℕ) (d y : Ahead) → i < length xs → y.marked ≡ (get_or xs i d).marked → marked_ahead (slice_set xs i y) ≡ marked_ahead xs
 still_held [] i d y low is = absurd (omega (arith, low))
-still_held (x ∷ xs) zero d y low is = ap (λ h. h ∷ held_ahead xs) is
-still_held (x ∷ xs) (suc i) d y low is = ap (λ hs. x.held ∷ hs) (still_held xs i d y (omega (arith, low)) is)
+still_held (x ∷ xs) zero d y low is = ap (λ h. h ∷ marked_ahead xs) is
+still_held (x ∷ xs) (suc i) d y low is = ap (λ hs. x.marked ∷ hs) (still_held xs i d y (omega (arith, low)) is)
 
-held_at : (xs : List Ahead) (i : ℕ) (d : Ahead) → get_or (held_ahead xs) i d.held ≡ (get_or xs i d).held
+held_at : (xs : List Ahead) (i : ℕ) (d : Ahead) → get_or (marked_ahead xs) i d.marked ≡ (get_or xs i d).marked
 held_at [] i d = refl
 held_at (x ∷ xs) zero d = refl
 held_at (x ∷ xs) (suc i) d = held_at xs i d
 
 -- the monitor at a place of a session that has a number is known by both
-pub known_ahead : (m : Sessions) (w : Option ℕ) (v : Option (ℕ × ℕ)) (xs : List Ahead) (i : ℕ) (x : Ahead) → i < length xs → x ≡ get_or xs i x → v ≡ option_map (λ n. (n, i)) w → AreKnownAs m w (held_ahead xs) → IsKnownAs m v x.held
-known_ahead m None v xs i x low at is h = subst (λ (o : Option (ℕ × ℕ)). IsKnownAs m o x.held) (sym is) tt
+pub known_ahead : (m : Sessions) (w : Option ℕ) (v : Option (ℕ × ℕ)) (xs : List Ahead) (i : ℕ) (x : Ahead) → i < length xs → x ≡ get_or xs i x → v ≡ option_map (λ n. (n, i)) w → AreKnownAs m w (marked_ahead xs) → IsKnownAs m v x.marked
+known_ahead m None v xs i x low at is h = subst (λ (o : Option (ℕ × ℕ)). IsKnownAs m o x.marked) (sym is) tt
 known_ahead m (Some n) v xs i x low at is h =
-    let long : length (held_ahead xs) ≡ length xs = length-map xs (λ (a : Ahead). a.held) in
-    let known : IsKnownAs m (Some (n, i)) (get_or (held_ahead xs) i x.held) = known_at m n i (held_ahead xs) x.held (omega (arith, low, long)) h in
-    subst (λ (o : Option (ℕ × ℕ)). IsKnownAs m o x.held) (sym is) (subst (IsKnownAs m (Some (n, i))) (held_at xs i x ∙ ap (λ (a : Ahead). a.held) (sym at)) known)
+    let long : length (marked_ahead xs) ≡ length xs = length-map xs (λ (a : Ahead). a.marked) in
+    let known : IsKnownAs m (Some (n, i)) (get_or (marked_ahead xs) i x.marked) = known_at m n i (marked_ahead xs) x.marked (omega (arith, low, long)) h in
+    subst (λ (o : Option (ℕ × ℕ)). IsKnownAs m o x.marked) (sym is) (subst (IsKnownAs m (Some (n, i))) (held_at xs i x ∙ ap (λ (a : Ahead). a.marked) (sym at)) known)
 
-pub live_ahead : (k : Chains) (xs : List Ahead) (i : ℕ) (d : Ahead) → i < length xs → AreLive k (marks_ahead xs) → AreLive k (marks_in (get_or xs i d).held)
+pub live_ahead : (k : Chains) (xs : List Ahead) (i : ℕ) (d : Ahead) → i < length xs → AreLive k (marks_ahead xs) → AreLive k (marks_in (get_or xs i d).marked)
 live_ahead k [] i d low live = absurd (omega (arith, low))
-live_ahead k (x ∷ xs) zero d low live = live-left k (marks_in x.held) (marks_ahead xs) live
-live_ahead k (x ∷ xs) (suc i) d low live = live_ahead k xs i d (omega (arith, low)) (live-right k (marks_in x.held) (marks_ahead xs) live)
+live_ahead k (x ∷ xs) zero d low live = live-left k (marks_in x.marked) (marks_ahead xs) live
+live_ahead k (x ∷ xs) (suc i) d low live = live_ahead k xs i d (omega (arith, low)) (live-right k (marks_in x.marked) (marks_ahead xs) live)
 
-pub same_marks : (xs : List Ahead) (i : ℕ) (d y : Ahead) → i < length xs → y.held ≡ (get_or xs i d).held → marks_ahead (slice_set xs i y) ≡ marks_ahead xs
+pub same_marks : (xs : List Ahead) (i : ℕ) (d y : Ahead) → i < length xs → y.marked ≡ (get_or xs i d).marked → marks_ahead (slice_set xs i y) ≡ marks_ahead xs
 same_marks [] i d y low is = absurd (omega (arith, low))
 same_marks (x ∷ xs) zero d y low is = ap (λ z. marks_in z ++ marks_ahead xs) is
-same_marks (x ∷ xs) (suc i) d y low is = ap (λ ms. marks_in x.held ++ ms) (same_marks xs i d y (omega (arith, low)) is)
+same_marks (x ∷ xs) (suc i) d y low is = ap (λ ms. marks_in x.marked ++ ms) (same_marks xs i d y (omega (arith, low)) is)
 
 abbrev nobody : Ahead
 nobody = as_told (record { id = null; notation = update; tables = []; since = None })
@@ -142,10 +142,10 @@ module _ (s : Schema) (db : Db) (i : Data) (u : Under) (xs : List Ahead) where
   ms = map (seen_ahead db) xs
 
   abbrev is_it : Ahead → Bool
-  is_it x = is_same i x.held.id
+  is_it x = is_same i x.marked.id
 
   abbrev bring : Ahead → Ahead
-  bring x = told_as x.held (filters_in u)
+  bring x = told_as x.marked (filters_in u)
 
   -- there is none
   pub due_nowhere : position is_it xs ≡ None → due (served_by s) db (item_in i u) ms ≡ None

@@ -13,7 +13,7 @@ use Rattle.odb_schema.specs.Json.{Data}
 use Rattle.odb_service.specs.Service.{Service}
 use Rattle.odb_service.specs.Session.{Monitor, Revision, method_of, newest_number, notified, shapes}
 use Rattle.odb_sessions.specs.Composed.{asked_of, first_job, first_part, first_updates, later_job, notified_text, part_to}
-use Rattle.odb_sessions.specs.Held.{Held, Watched, view_of, watch_of}
+use Rattle.odb_sessions.specs.Marked.{MarkedMonitor, Watched, view_of, watch_of}
 use Rattle.odb_round.specs.Planned.{update_due}
 use Rattle.odb_round.specs.Sending.{due_sending, notifying, parts_between, sent_with, update_sending}
 use Rattle.odb_tables.specs.Database.{Db, table_at}
@@ -28,7 +28,7 @@ mapped_same (x ∷ xs) = ap (λ ys. x ∷ ys) (mapped_same xs)
 pub parts_asked : (db : Db) (ws : List Watched) → map (λ (p : Part). p.request) (map (part_to db) ws) ≡ asked_of ws
 parts_asked db ws = mapped_twice (λ (p : Part). p.request) (part_to db) ws
 
-pub parts_told : (db : Db) (x : Held) → map (λ (p : Part). p.told) (map (part_to db) x.tables) ≡ view_of x
+pub parts_told : (db : Db) (x : MarkedMonitor) → map (λ (p : Part). p.told) (map (part_to db) x.tables) ≡ view_of x
 parts_told db x = mapped_twice (λ (p : Part). p.told) (part_to db) x.tables
 
 pub parts_now : (db : Db) (ws : List Watched) → map (λ (p : Part). p.asked) (map (part_to db) ws) ≡ query db (asked_of ws)
@@ -47,10 +47,10 @@ abbrev updates_between : Notation → List Request → View → View → Option 
 updates_between n qs V W = cond (not (is_none (shown false qs (delta V W)))) (Some (table_updates n false (shapes qs) (shown false qs (delta V W)))) None
 
 -- in a notification to the client of the monitor, where this is the newest commit
-abbrev in_notification : Uuid → Held → Data → Data
+abbrev in_notification : Uuid → MarkedMonitor → Data → Data
 in_notification number x d = elim x.since [ None ↦ notification (update_method x.notation) (x.id ∷ d ∷ []) | Some v ↦ update3 x.id number d ]
 
-same_notification : (h : Service) (revision : Revision) (x : Held) (d : Data) → notified h revision (watch_of x) d ≡ in_notification (newest_number revision) x d
+same_notification : (h : Service) (revision : Revision) (x : MarkedMonitor) (d : Data) → notified h revision (watch_of x) d ≡ in_notification (newest_number revision) x d
 same_notification h revision x d = by x.since
   where
     named : List ℕ → Option Uuid → Data
@@ -65,10 +65,10 @@ pub parts_again : (ps : List Part) → parts_between (map (λ (p : Part). p.requ
 parts_again [] = refl
 parts_again (p ∷ ps) = ap (λ (qs : List Part). p ∷ qs) (parts_again ps)
 
-abbrev pub monitor_so : Held → View → Monitor
+abbrev pub monitor_so : MarkedMonitor → View → Monitor
 monitor_so x V = record { watch = watch_of x; view = V }
 
-either_way : (h : Service) (revision : Revision) (x : Held) (qs : List Request) (V : View)
+either_way : (h : Service) (revision : Revision) (x : MarkedMonitor) (qs : List Request) (V : View)
     → (let j : Job = later_job x.notation (parts_between qs V (query revision.db qs)) in
     option_map (sent_with (notifying (newest_number revision) x j)) (updates_between x.notation qs V (query revision.db qs)) ≡ update_sending h revision qs (monitor_so x V))
 either_way h revision x qs V = by (is_none (shown false qs (delta V (query revision.db qs))))
@@ -89,7 +89,7 @@ either_way h revision x qs V = by (is_none (shown false qs (delta V (query revis
     by false = ap (λ (f : Data → List ℕ). Some (sent_with (record { job = j; text = f }) body)) said
 
 -- what is sent of parts that lead from what the client has to what these requests select
-pub parts_sent : (h : Service) (revision : Revision) (x : Held) (qs : List Request) (V : View) (ps : List Part)
+pub parts_sent : (h : Service) (revision : Revision) (x : MarkedMonitor) (qs : List Request) (V : View) (ps : List Part)
     → map (λ (p : Part). p.request) ps ≡ qs → map (λ (p : Part). p.told) ps ≡ V → map (λ (p : Part). p.asked) ps ≡ query revision.db qs
     → option_map (sent_with (notifying (newest_number revision) x (later_job x.notation ps))) (updates_of (later_job x.notation ps)) ≡ update_sending h revision qs (monitor_so x V)
 parts_sent h revision x qs V ps asked told now =

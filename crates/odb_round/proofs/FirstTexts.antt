@@ -5,7 +5,7 @@ use Rattle.odb_monitor.specs.Job.{Job, Part}
 use Rattle.odb_request.specs.Request.{Notation, Request}
 use Rattle.odb_sessions.specs.Composed.{asked_of, composition, first_job, first_part}
 use Rattle.odb_sessions.specs.FirstTexts.{IsOfNow}
-use Rattle.odb_sessions.specs.Held.{Held}
+use Rattle.odb_sessions.specs.Marked.{MarkedMonitor}
 use Rattle.odb_sessions.specs.Represented.Job.{job_in}
 use Rattle.odb_sessions.specs.declared.way.Way.TheVariants as way
 use Rattle.odb_sessions.specs.declared.way.Way.{Way}
@@ -16,7 +16,7 @@ requests_in : (db : Db) (qs : List Request) → qs ≡ map (λ (p : Part). p.req
 requests_in db [] = refl
 requests_in db (q ∷ qs) = ap (λ (rs : List Request). q ∷ rs) (requests_in db qs)
 
-pub of_now : (db : Db) (x : Held) (w : Way) → IsOfNow db (job_in db x w)
+pub of_now : (db : Db) (x : MarkedMonitor) (w : Way) → IsOfNow db (job_in db x w)
 of_now db x way.First e = ap (first_job db x.notation) (requests_in db (asked_of x.tables))
 of_now db x way.Asked e = absurd (true≢false (sym e))
 of_now db x (way.Changed u) e = absurd (true≢false (sym e))

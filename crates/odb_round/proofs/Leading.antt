@@ -9,9 +9,9 @@ use Rattle.odb_service.specs.Session as machine
 use Rattle.odb_service.specs.Session.{Monitor, Revision, leaves}
 use Rattle.odb_sessions.specs.Carried.{finished_text}
 use Rattle.odb_round.specs.Foreseen.{last_used}
-use Rattle.odb_sessions.specs.Held.{item_seen, marks_due}
-use Rattle.odb_round.specs.Planned.{Due, Plan, due, from_item, plan_from, plan_rest}
-use Rattle.odb_sessions.specs.Represented.Queued.{queued_of}
+use Rattle.odb_sessions.specs.Marked.{item_seen, marks_due}
+use Rattle.odb_round.specs.Planned.{Due, Plan, due, from_item, plan_from, plan_monitors}
+use Rattle.odb_sessions.specs.Represented.Item.{marked_item_of}
 use Rattle.odb_round.specs.Sending.{due_sending, finished}
 use Rattle.odb_sessions.specs.Tied.{AreLive}
 use Rattle.odb_sessions.specs.declared.item.Item.{Item}
@@ -27,13 +27,13 @@ pub none_used : (p : Plan) → p ≡ after_items 0 p
 none_used p = let zero : p.items ≡ 0 + p.items = omega arith in ap (λ n. let q : Plan = record { items = n; monitors = p.monitors; out = p.out } in q) zero
 
 abbrev pub all_seen : List Item → List machine.Item
-all_seen xs = map item_seen (map queued_of xs)
+all_seen xs = map item_seen (map marked_item_of xs)
 
 abbrev pub plan_at : Schema → Db → List Item → List Monitor → Plan
 plan_at s db xs ms = plan_from (served_by s) db (all_seen xs) ms
 
 abbrev pub seen_item : Item → machine.Item
-seen_item x = item_seen (queued_of x)
+seen_item x = item_seen (marked_item_of x)
 
 -- ---- what is due ends a plan
 
@@ -67,9 +67,9 @@ module _ (s : Schema) (db : Db) (xs : List Item) (i : ℕ) (x : Item) (step : dr
 
 -- no item is left
 pub at_end : (s : Schema) (db : Db) (xs : List Item) (i n : ℕ) (ms : List Monitor) → length xs ≤ i → i ≤ length xs → n ≡ length xs
-    → after_items i (plan_at s db (drop i xs) ms) ≡ (let p : Plan = plan_rest (served_by s) db ms in record { items = n; monitors = p.monitors; out = p.out })
+    → after_items i (plan_at s db (drop i xs) ms) ≡ (let p : Plan = plan_monitors (served_by s) db ms in record { items = n; monitors = p.monitors; out = p.out })
 at_end s db xs i n ms past within len =
-    let p : Plan = plan_rest (served_by s) db ms in
+    let p : Plan = plan_monitors (served_by s) db ms in
     let none : i + 0 ≡ n = omega (arith, past, within, len) in
     ap (λ ys. after_items i (plan_at s db ys ms)) (drop_all i xs past)
     ∙ ap (λ k. let q : Plan = record { items = i + k; monitors = p.monitors; out = p.out } in q) (no_items (served_by s) db ms)
@@ -125,7 +125,7 @@ last_at xs i x low at =
     let next : i + 1 ≡ suc i = omega arith in
     ap (λ n. last_used n (all_seen xs)) next ∙ seen_at xs i x low ∙ ap (λ y. Some (seen_item y)) (sym at)
 
-pub live_due : (k : Chains) (xs : List Item) (i : ℕ) (d : Item) → i < length xs → AreLive k (flat_map marks_due (map queued_of xs)) → AreLive k (marks_due (queued_of (get_or xs i d)))
+pub live_due : (k : Chains) (xs : List Item) (i : ℕ) (d : Item) → i < length xs → AreLive k (flat_map marks_due (map marked_item_of xs)) → AreLive k (marks_due (marked_item_of (get_or xs i d)))
 live_due k [] i d low live = absurd (omega (arith, low))
-live_due k (x ∷ xs) zero d low live = live-left k (marks_due (queued_of x)) (flat_map marks_due (map queued_of xs)) live
-live_due k (x ∷ xs) (suc i) d low live = live_due k xs i d (omega (arith, low)) (live-right k (marks_due (queued_of x)) (flat_map marks_due (map queued_of xs)) live)
+live_due k (x ∷ xs) zero d low live = live-left k (marks_due (marked_item_of x)) (flat_map marks_due (map marked_item_of xs)) live
+live_due k (x ∷ xs) (suc i) d low live = live_due k xs i d (omega (arith, low)) (live-right k (marks_due (marked_item_of x)) (flat_map marks_due (map marked_item_of xs)) live)

@@ -13,7 +13,7 @@ use Rattle.odb_round.specs.Alike.{IsOfCommits, IsOfRequests, job_like, part_told
 use Rattle.odb_sessions.specs.Alike.{Stand}
 use Rattle.odb_sessions.specs.Composed.{all_asked_as, asked_of, first_part, later_job, part_to, resumed_job}
 use Rattle.odb_sessions.specs.Filtered.{all_parts_again, asked_under}
-use Rattle.odb_sessions.specs.Held.{Held, Watched, marks_in, table_marks}
+use Rattle.odb_sessions.specs.Marked.{MarkedMonitor, Watched, marks_in, table_marks}
 use Rattle.odb_round.specs.Represented.Decided.{IsFoundIn}
 use Rattle.odb_sessions.specs.Represented.Alike.{likeness_in, stand_in}
 use Rattle.odb_round.specs.ByMarks.{contents}
@@ -26,10 +26,10 @@ use Rattle.odb_sessions.specs.declared.way.Way.TheVariants as way
 use Rattle.odb_tables.specs.Database.{Db, Table, table_at}
 
 abbrev part_of : Chains → Stand → Part
-part_of k s = part_told (contents k) k.db s.request s.place s.told
+part_of k s = part_told (contents k) k.db s.request s.version s.told
 
 -- the content of a live mark
-live_content : (k : Chains) (m : Mark) → IsLive k m → m.content ≡ contents k m.table m.place
+live_content : (k : Chains) (m : Mark) → IsLive k m → m.content ≡ contents k m.table m.version
 live_content k m (n, is) = sym (ap (λ o. unwrap_or (option_map (λ (s : Standing). s.content) o) finite.empty) is)
 
 abbrev part_so : Db → Request → Filter → Table → Part
@@ -58,7 +58,7 @@ since_asked : (r : Bor Recent) (n : ℕ) (ws : List Watched) → asked_of ws ≡
 since_asked r n [] = refl
 since_asked r n (w ∷ ws) = ap (λ (qs : List Request). w.request ∷ qs) (since_asked r n ws)
 
-pub like_job : (k : Chains) (r : Recent) (x : Held) (w : Way) → IsFoundIn r w → AreLive k (marks_in x) → job_in k.db x w ≡ job_like (contents k) r.undos k.db (likeness_in x w)
+pub like_job : (k : Chains) (r : Recent) (x : MarkedMonitor) (w : Way) → IsFoundIn r w → AreLive k (marks_in x) → job_in k.db x w ≡ job_like (contents k) r.undos k.db (likeness_in x w)
 like_job k r x way.First own live = λ i. let j : Job = record { notation = x.notation; first = true; reply = true; parts = first_parts k x.tables i } in j
 like_job k r x way.Asked own live = λ i. later_job x.notation (asked_parts k x.tables live i)
 like_job k r x (way.Changed u) own live = λ i. later_job x.notation (changed_parts k u x.tables live i)
@@ -73,14 +73,14 @@ since_stands : (r : Bor Recent) (n : ℕ) (ws : List Watched) → map (stand_in 
 since_stands r n [] = refl
 since_stands r n (w ∷ ws) = ap (λ (ss : List Stand). stand_in (way.Since r n) w ∷ ss) (since_stands r n ws)
 
-pub of_requests : (x : Held) (w : Way) → IsOfRequests (likeness_in x w)
+pub of_requests : (x : MarkedMonitor) (w : Way) → IsOfRequests (likeness_in x w)
 of_requests x way.First e = first_stands x.tables
 of_requests x way.Asked e = absurd (true≢false (sym e))
 of_requests x (way.Changed u) e = absurd (true≢false (sym e))
 of_requests x (way.Again told u) e = absurd (true≢false (sym e))
 of_requests x (way.Since r n) e = since_stands r n x.tables
 
-pub of_commits : (r : Recent) (x : Held) (w : Way) → IsFoundIn r w → IsOfCommits r.undos (likeness_in x w)
+pub of_commits : (r : Recent) (x : MarkedMonitor) (w : Way) → IsFoundIn r w → IsOfCommits r.undos (likeness_in x w)
 of_commits r x way.First own = tt
 of_commits r x way.Asked own = tt
 of_commits r x (way.Changed u) own = tt

@@ -6,7 +6,7 @@ use Rattle.odb_chain.specs.Chains.{Chains}
 use Rattle.odb_monitor.specs.Job.{Part, updates_of}
 use Rattle.odb_monitor.specs.Update.{table_updates}
 use Rattle.odb_monitor.specs.View.{View, delta, query, selected, shown}
-use Rattle.odb_recent.specs.Kept.{content_ago, kept_of}
+use Rattle.odb_recent.specs.Findable.{content_ago, findable}
 use Rattle.odb_recent.specs.Recent.{Recent, commits_ago, number_of}
 use Rattle.odb_recent.specs.Undo.{Undo, table_ago}
 use Rattle.odb_recent.proofs.Undoing.{contents_are_there, tables_are_those_of_contents}
@@ -18,7 +18,7 @@ use Rattle.odb_service.specs.Session as machine
 use Rattle.odb_service.specs.Session.{Watch, shapes}
 use Rattle.odb_sessions.specs.Book.{revision_at}
 use Rattle.odb_sessions.specs.Composed.{AreTheirs, asked_of, part_since, resumed_job, resumed_updates}
-use Rattle.odb_sessions.specs.Held.{Held, Watched, table_marks, watch_of}
+use Rattle.odb_sessions.specs.Marked.{MarkedMonitor, Watched, table_marks, watch_of}
 use Rattle.odb_round.specs.Planned.{first_due}
 use Rattle.odb_round.specs.Sending.{Sending, due_sending, first_job_to, parts_between, replying, sending_ago, sending_since, sent_with, whole_sending}
 use Rattle.odb_sessions.specs.Tied.{AreLive}
@@ -58,7 +58,7 @@ AreThere db (w ∷ ws) = (w.request.place < length db) × AreThere db ws
 pub are_there : (k : Chains) (ws : List Watched) → length k.live ≡ length k.db → AreLive k (table_marks ws) → AreTheirs ws → AreThere k.db ws
 are_there k [] long live theirs = tt
 are_there k (w ∷ ws) long live theirs =
-    let low : w.mark.table < length k.live = stands_inside k.live w.mark.table w.mark.place _ live.0.1 in
+    let low : w.mark.table < length k.live = stands_inside k.live w.mark.table w.mark.version _ live.0.1 in
     (subst (λ n. w.request.place < n) long (subst (λ t. t < length k.live) theirs.0 low), are_there k ws long live.1 theirs.1)
 
 selected_ago : (db : Db) (us : List Undo) (ago : ℕ) (ws : List Watched) → ago ≤ length us → AreThere db ws
@@ -68,16 +68,16 @@ selected_ago db us ago (w ∷ ws) few there =
     let same : table_ago w.request.place (take ago us) (table_at db w.request.place) ≡ table_at (content_ago db us ago) w.request.place = sym (tables_are_those_of_contents db us ago w.request.place few there.0) in
     λ j. selected w.request (same j) ∷ selected_ago db us ago ws few there.1 j
 
-now_first : (db : Db) (us : List Undo) → kept_of db us ≡ db ∷ drop 1 (kept_of db us)
+now_first : (db : Db) (us : List Undo) → findable db us ≡ db ∷ drop 1 (findable db us)
 now_first db [] = refl
 now_first db (u ∷ us) = refl
 
-content_there : (db : Db) (us : List Undo) (ago : ℕ) → ago ≤ length us → slice_get (db ∷ drop 1 (kept_of db us)) ago ≡ Some (content_ago db us ago)
+content_there : (db : Db) (us : List Undo) (ago : ℕ) → ago ≤ length us → slice_get (db ∷ drop 1 (findable db us)) ago ≡ Some (content_ago db us ago)
 content_there db us ago few = sym (ap (λ (dbs : List Db). slice_get dbs ago) (now_first db us)) ∙ contents_are_there db us ago few
 
 -- ---- the reply
 
-module _ (h : Service) (r : Recent) (k : Chains) (d : Data) (x : Held) where
+module _ (h : Service) (r : Recent) (k : Chains) (d : Data) (x : MarkedMonitor) where
   abbrev naming : Option Uuid → Watch
   naming o = record (watch_of x) { since = o }
 
@@ -119,7 +119,7 @@ module _ (h : Service) (r : Recent) (k : Chains) (d : Data) (x : Held) where
       parts ago few = since_parts (take ago r.undos) k.db requests ∙ ap (λ V. parts_between requests V (query k.db requests)) (told ago few)
 
       by : (o : Option ℕ) → IfSome o IsKeptAgo
-          → sending_ago r k.db d x o ≡ sending_to (option_and_then (λ ago. slice_get (k.db ∷ drop 1 (kept_of k.db r.undos)) ago) o)
+          → sending_ago r k.db d x o ≡ sending_to (option_and_then (λ ago. slice_get (k.db ∷ drop 1 (findable k.db r.undos)) ago) o)
       by None few = refl
       by (Some ago) few =
           (λ j. sent_with (replying d (since_result true number) (record { notation = x.notation; first = false; reply = true; parts = parts ago few j }))

@@ -9,13 +9,13 @@ use Rattle.odb_schema.specs.Schema.{Schema}
 use Rattle.odb_sessions.specs.Alike.{Likeness, Stand}
 use Rattle.odb_sessions.specs.Composed.{asked_of}
 use Rattle.odb_round.specs.Foreseen.{Ahead, AreAheadOf, as_told}
-use Rattle.odb_sessions.specs.Held.{Held, Watched, item_seen, monitor_of}
+use Rattle.odb_sessions.specs.Marked.{MarkedMonitor, Watched, item_seen, monitor_of}
 use Rattle.odb_round.specs.Jobs.{Decision}
 use Rattle.odb_round.specs.OfSchema.{AreOfSchema, IsItemOf, IsMonitorOf, IsOfSchema, named_by}
 use Rattle.odb_sessions.specs.Represented.Alike.{Bare, BareLikeness, bare, bare_in, bare_likeness, filter_in, likeness_in, stand_in}
 use Rattle.odb_round.specs.Represented.Decided.{IsLikenessOf, AreDecisionsOf, IsDecisionOf, IsSame, Puts, bucket_at}
 use Rattle.odb_sessions.specs.Represented.Digest.{digest}
-use Rattle.odb_sessions.specs.Represented.Queued.{queued_of}
+use Rattle.odb_sessions.specs.Represented.Item.{marked_item_of}
 use Rattle.odb_round.specs.declared.decided.Decided.{Decided}
 use Rattle.odb_sessions.specs.declared.item.Item.{Item}
 use Rattle.odb_sessions.specs.declared.way.Way.{Way}
@@ -30,13 +30,13 @@ stands_of : (s : Schema) (v : Way) (ws : List Watched) → AreOfSchema s (asked_
 stands_of s v [] of = tt
 stands_of s v (w ∷ ws) of = (refiltered_of s w.request (filter_in v w.request) of.0, stands_of s v ws of.1)
 
-pub likeness_of : (s : Schema) (x : Held) (w : Way) → AreOfSchema s (asked_of x.tables) → IsLikenessOf s (likeness_in x w)
+pub likeness_of : (s : Schema) (x : MarkedMonitor) (w : Way) → AreOfSchema s (asked_of x.tables) → IsLikenessOf s (likeness_in x w)
 likeness_of s x w of = stands_of s w x.tables of
 
 same_stand : (s : Schema) (a b : Stand) → IsOfSchema s a.request → IsOfSchema s b.request → bare a ≡ bare b → a ≡ b
 same_stand s a b of other e =
     let request : a.request ≡ b.request = of ∙ ap (λ (x : Bare). named_by s x.asks) e ∙ sym other in
-    λ i. record { request = request i; told = (e i).told; place = (e i).place }
+    λ i. record { request = request i; told = (e i).told; version = (e i).version }
 
 is_nil : List Bare → Bool
 is_nil [] = true
@@ -61,7 +61,7 @@ same_stands s v w (x ∷ xs) (y ∷ ys) of other e =
     let tail : map (bare_in v) xs ≡ map (bare_in w) ys = ap rest e in
     λ i. same_stand s (stand_in v x) (stand_in w y) of.0 other.0 head i ∷ same_stands s v w xs ys of.1 other.1 tail i
 
-pub same_likeness : (s : Schema) (x y : Held) (v w : Way) → IsLikenessOf s (likeness_in x v) → IsLikenessOf s (likeness_in y w) → bare_likeness x v ≡ bare_likeness y w → likeness_in x v ≡ likeness_in y w
+pub same_likeness : (s : Schema) (x y : MarkedMonitor) (v w : Way) → IsLikenessOf s (likeness_in x v) → IsLikenessOf s (likeness_in y w) → bare_likeness x v ≡ bare_likeness y w → likeness_in x v ≡ likeness_in y w
 same_likeness s x y v w of other e =
     let stands : map (stand_in v) x.tables ≡ map (stand_in w) y.tables = same_stands s v w x.tables y.tables of other (ap (λ (b : BareLikeness). b.stands) e) in
     λ i. record { notation = (e i).notation; first = (e i).first; ago = (e i).ago; stands = stands i }
@@ -71,7 +71,7 @@ bare_stands v [] = refl
 bare_stands v (w ∷ ws) = ap (λ bs. bare_in v w ∷ bs) (bare_stands v ws)
 
 -- what is the same is so without names and types too
-pub same_bare : (x y : Held) (v w : Way) → likeness_in x v ≡ likeness_in y w → bare_likeness x v ≡ bare_likeness y w
+pub same_bare : (x y : MarkedMonitor) (v w : Way) → likeness_in x v ≡ likeness_in y w → bare_likeness x v ≡ bare_likeness y w
 same_bare x y v w e =
     let stands : map (bare_in v) x.tables ≡ map (bare_in w) y.tables = sym (bare_stands v x.tables) ∙ ap (λ (l : Likeness). map bare l.stands) e ∙ bare_stands w y.tables in
     λ i. record { notation = (e i).notation; first = (e i).first; ago = (e i).ago; stands = stands i }
@@ -93,22 +93,22 @@ more_decided s d e x puts own of n = subst (All (IsDecisionOf s)) (sym (puts n))
 
 -- ---- monitors and items by their places
 
-pub told_of : (s : Schema) (ms : List Held) → AllByRecursion (IsMonitorOf s) (map monitor_of ms) → AreAheadOf s (map as_told ms)
+pub told_of : (s : Schema) (ms : List MarkedMonitor) → AllByRecursion (IsMonitorOf s) (map monitor_of ms) → AreAheadOf s (map as_told ms)
 told_of s [] h = tt
 told_of s (m ∷ ms) h = (h.0, told_of s ms h.1)
 
-pub ahead_of : (s : Schema) (xs : List Ahead) (i : ℕ) (d : Ahead) → i < length xs → AreAheadOf s xs → AreOfSchema s (asked_of (get_or xs i d).held.tables)
+pub ahead_of : (s : Schema) (xs : List Ahead) (i : ℕ) (d : Ahead) → i < length xs → AreAheadOf s xs → AreOfSchema s (asked_of (get_or xs i d).marked.tables)
 ahead_of s [] i d low h = absurd (omega (arith, low))
 ahead_of s (x ∷ xs) zero d low h = h.0
 ahead_of s (x ∷ xs) (suc i) d low h = ahead_of s xs i d (omega (arith, low)) h.1
 
 -- where the monitor at a place is foreseen otherwise
-pub still_of : (s : Schema) (xs : List Ahead) (i : ℕ) (d y : Ahead) → i < length xs → y.held ≡ (get_or xs i d).held → AreAheadOf s xs → AreAheadOf s (slice_set xs i y)
+pub still_of : (s : Schema) (xs : List Ahead) (i : ℕ) (d y : Ahead) → i < length xs → y.marked ≡ (get_or xs i d).marked → AreAheadOf s xs → AreAheadOf s (slice_set xs i y)
 still_of s [] i d y low is h = absurd (omega (arith, low))
-still_of s (x ∷ xs) zero d y low is h = (subst (λ (z : Held). AreOfSchema s (asked_of z.tables)) (sym is) h.0, h.1)
+still_of s (x ∷ xs) zero d y low is h = (subst (λ (z : MarkedMonitor). AreOfSchema s (asked_of z.tables)) (sym is) h.0, h.1)
 still_of s (x ∷ xs) (suc i) d y low is h = (h.0, still_of s xs i d y (omega (arith, low)) is h.1)
 
-pub item_of : (s : Schema) (xs : List Item) (i : ℕ) (d : Item) → i < length xs → AllByRecursion (IsItemOf s) (map item_seen (map queued_of xs)) → IsItemOf s (item_seen (queued_of (get_or xs i d)))
+pub item_of : (s : Schema) (xs : List Item) (i : ℕ) (d : Item) → i < length xs → AllByRecursion (IsItemOf s) (map item_seen (map marked_item_of xs)) → IsItemOf s (item_seen (marked_item_of (get_or xs i d)))
 item_of s [] i d low h = absurd (omega (arith, low))
 item_of s (x ∷ xs) zero d low h = h.0
 item_of s (x ∷ xs) (suc i) d low h = item_of s xs i d (omega (arith, low)) h.1

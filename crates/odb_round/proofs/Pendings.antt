@@ -55,12 +55,12 @@ module _ (s : Schema) (revision : Revision) (js : List Job) (x : Session) (m : E
   framed_is None f d e = absurd (none-some (sent_with f d) (sym e))
   framed_is (Some due) f d e = sym (ap (λ (y : Sending). y.framed) (same_Some (sent_with f d) (due_sending (served_by s) revision due) e))
 
-  of_updates : (j : Job) (o : Option Data) → slice_get js m.job ≡ Some j → updates_of j ≡ o → option_map (sent_with (framing m j)) o ≡ option_map (due_sending (served_by s) revision) due_out
+  of_updates : (j : Job) (o : Option Data) → slice_get js m.place ≡ Some j → updates_of j ≡ o → option_map (sent_with (framing m j)) o ≡ option_map (due_sending (served_by s) revision) due_out
       → IsOfJob s revision js (Some x) (text_around m.before.items (option_map compact_text o) m.after.items)
   of_updates j None at is e = tt
-  of_updates j (Some d) at is e = (m.job, j, at, ap (option_map compact_text) is, framed_is due_out (framing m j) d e)
+  of_updates j (Some d) at is e = (m.place, j, at, ap (option_map compact_text) is, framed_is due_out (framing m j) d e)
 
-  of_message : (o : Option Job) → slice_get js m.job ≡ o
+  of_message : (o : Option Job) → slice_get js m.place ≡ o
       → option_and_then (λ (j : Job). option_map (sent_with (framing m j)) (updates_of j)) o ≡ option_map (due_sending (served_by s) revision) due_out
       → IsOfJob s revision js (Some x) (text_around m.before.items (option_and_then composition o) m.after.items)
   of_message None at e = tt
@@ -71,7 +71,7 @@ pub made_of : (s : Schema) (revision : Revision) (js : List Job) (x : Session) (
     → coming_sending js c last ≡ option_map (due_sending (served_by s) revision) (plan (served_by s) revision.db x).out → IsOfJob s revision js (Some x) (text_planned js c)
 made_of s revision js x None last e = tt
 made_of s revision js x (Some Queued) last e = tt
-made_of s revision js x (Some (Composed m)) last e = of_message s revision js x m (slice_get js m.job) refl e
+made_of s revision js x (Some (Composed m)) last e = of_message s revision js x m (slice_get js m.place) refl e
 
 -- one more is composed so
 pub made-append : (s : Schema) (b : Book) (js : List Job) (ps : List Pending) (p : Pending) → AreMadeOf s b js ps → IsOfJob s (revision_in b) js (get b.sessions p.0) p.1.text → AreMadeOf s b js (ps ++ p ∷ [])

@@ -150,8 +150,8 @@ text_comes js (Some Queued) last = by (option_and_then finished_text last)
     by None = refl
     by (Some t) = refl
 text_comes js (Some (Composed m)) last =
-    around_text m.before.items m.after.items (composition_at js m.job) last
-    ∙ by (slice_get js m.job)
+    around_text m.before.items m.after.items (composition_at js m.place) last
+    ∙ by (slice_get js m.place)
   where
     one : (j : Job) (o : Option Data) → option_map (λ t. whole_text m.before.items t m.after.items) (option_map compact_text o) ≡ option_map (λ (x : Sending). x.text) (option_map (sent_with (framing m j)) o)
     one j None = refl

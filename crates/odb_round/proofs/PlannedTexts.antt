@@ -6,7 +6,7 @@ use Rattle.odb_request.specs.Request.{Request}
 use Rattle.odb_service.specs.Service.{Service}
 use Rattle.odb_service.specs.Session.{Item, Monitor, Session, has_id, leaves, refilter, renamed, say, shift, start, stopped, sync}
 use Rattle.odb_sessions.specs.Carried.{finished_in, last_finished}
-use Rattle.odb_round.specs.Planned.{Due, Plan, change_to, due, from_item, from_monitor, plan, plan_from, plan_rest, update_due, update_of, first_due, grant_due, text_due}
+use Rattle.odb_round.specs.Planned.{Due, Plan, change_to, due, from_item, from_monitor, plan, plan_from, plan_monitors, update_due, update_of, first_due, grant_due, text_due}
 use Rattle.odb_tables.specs.Database.{Db}
 use Rattle.odb_sessions.specs.Represented.Origin.{granted}
 
@@ -41,12 +41,12 @@ module _ (h : Service) (db : Db) where
   due_finished (renamed d old new fs) ms = refl
   due_finished (stopped d i) ms = refl
 
-  rest_finished : (ms : List Monitor) → (last_finished (plan_rest h db ms).items [] ≡ said_with (plan_rest h db ms)) × ((plan_rest h db ms).items ≡ 0)
+  rest_finished : (ms : List Monitor) → (last_finished (plan_monitors h db ms).items [] ≡ said_with (plan_monitors h db ms)) × ((plan_monitors h db ms).items ≡ 0)
   rest_finished [] = (refl, refl)
   rest_finished (m ∷ ms) = by (update_of h db m.watch.requests m) (none_with m.watch.requests m) (rest_finished ms)
     where
-      by : (o : Option Due) → option_and_then finished_due o ≡ None → (last_finished (plan_rest h db ms).items [] ≡ said_with (plan_rest h db ms)) × ((plan_rest h db ms).items ≡ 0)
-          → (last_finished (from_monitor o (plan_rest h db ms)).items [] ≡ said_with (from_monitor o (plan_rest h db ms))) × ((from_monitor o (plan_rest h db ms)).items ≡ 0)
+      by : (o : Option Due) → option_and_then finished_due o ≡ None → (last_finished (plan_monitors h db ms).items [] ≡ said_with (plan_monitors h db ms)) × ((plan_monitors h db ms).items ≡ 0)
+          → (last_finished (from_monitor o (plan_monitors h db ms)).items [] ≡ said_with (from_monitor o (plan_monitors h db ms))) × ((from_monitor o (plan_monitors h db ms)).items ≡ 0)
       by None none rest = rest
       by (Some d) none rest = (sym none, refl)
 

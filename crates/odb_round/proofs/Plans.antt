@@ -12,7 +12,7 @@ use Rattle.odb_service.specs.Session.{Item, Monitor, Out, Revision, Session, bro
 use Rattle.odb_service.specs.World.{World, revision_of}
 use Rattle.odb_service.proofs.SessionMaps.{apart_keys, eq_turned, get-insert}
 use Rattle.odb_service.proofs.WhatIsOwed.{takes}
-use Rattle.odb_round.specs.Planned.{AreOnce, Due, Plan, all_applied, applied, change_to, due, dues, dues_from, from_item, from_monitor, is_listed, out_of, plan, plan_at, plan_from, plan_rest, planned_outs, plans, update_due, update_of}
+use Rattle.odb_round.specs.Planned.{AreOnce, Due, Plan, all_applied, applied, change_to, due, dues, dues_from, from_item, from_monitor, is_listed, out_of, plan, plan_at, plan_from, plan_monitors, planned_outs, plans, update_due, update_of}
 use Rattle.odb_sessions.specs.Carried.{first_brought, used_up}
 use Rattle.odb_sessions.proofs.Posts.{at_open}
 use Rattle.odb_tables.specs.Database.{Db}
@@ -41,14 +41,14 @@ module _ (h : Service) where
 
   -- ---- one taking
 
-  planned_rest : (revision : Revision) (ms : List Monitor) → take_rest h revision ms ≡ (option_map (out_of h revision) (plan_rest h revision.db ms).out, first_brought h revision.db (plan_rest h revision.db ms).monitors ms)
+  planned_rest : (revision : Revision) (ms : List Monitor) → take_rest h revision ms ≡ (option_map (out_of h revision) (plan_monitors h revision.db ms).out, first_brought h revision.db (plan_monitors h revision.db ms).monitors ms)
   planned_rest revision [] = refl
   planned_rest revision (m ∷ ms) =
       ap (λ o. stop_at o (brought h revision.db m.watch.requests m ∷ ms) ((take_rest h revision ms).0, brought h revision.db m.watch.requests m ∷ (take_rest h revision ms).1)) (update_given revision m.watch.requests m)
       ∙ by (update_of h revision.db m.watch.requests m) (planned_rest revision ms)
     where
       p : Plan
-      p = plan_rest h revision.db ms
+      p = plan_monitors h revision.db ms
 
       by : (o : Option Due) → take_rest h revision ms ≡ (option_map (out_of h revision) p.out, first_brought h revision.db p.monitors ms)
           → stop_at (option_map (out_of h revision) o) (brought h revision.db m.watch.requests m ∷ ms) ((take_rest h revision ms).0, brought h revision.db m.watch.requests m ∷ (take_rest h revision ms).1)
@@ -64,7 +64,7 @@ module _ (h : Service) where
   planned_from : (revision : Revision) (is : List Item) (ms : List Monitor)
       → take_from h revision is ms ≡ (option_map (out_of h revision) (plan_from h revision.db is ms).out, used_up h revision.db (plan_from h revision.db is ms).items (plan_from h revision.db is ms).monitors is ms)
   planned_from revision [] ms =
-      let p : Plan = plan_rest h revision.db ms in
+      let p : Plan = plan_monitors h revision.db ms in
       (λ i. let r : Option Out × Session = ((planned_rest revision ms i).0, record { queue = []; monitors = (planned_rest revision ms i).1 }) in r)
       ∙ (λ i. let r : Option Out × Session = (option_map (out_of h revision) p.out, dry revision.db p.items p.monitors ms i) in r)
   planned_from revision (i ∷ is) ms =

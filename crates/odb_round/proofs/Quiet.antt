@@ -10,13 +10,13 @@ use Rattle.odb_service.specs.Service.{Service}
 use Rattle.odb_service.specs.Session.{Monitor, Out, Revision}
 use Rattle.odb_sessions.proofs.Quiet.{nothing_sent}
 use Rattle.odb_sessions.specs.Composed.{AreNow}
-use Rattle.odb_sessions.specs.Held.{Held, monitor_of, watch_of}
+use Rattle.odb_sessions.specs.Marked.{MarkedMonitor, monitor_of, watch_of}
 
 nothing_due : (f : Due → Out) (o : Option Due) → option_map f o ≡ None → o ≡ None
 nothing_due f None e = refl
 nothing_due f (Some d) e = absurd (none-some (f d) (sym e))
 
-pub quiet : (h : Service) (revision : Revision) (x : Held) → AreNow revision.db x.tables → None ≡ update_sending h revision (watch_of x).requests (monitor_of x)
+pub quiet : (h : Service) (revision : Revision) (x : MarkedMonitor) → AreNow revision.db x.tables → None ≡ update_sending h revision (watch_of x).requests (monitor_of x)
 quiet h revision x same =
     let m : Monitor = monitor_of x in
     let qs : List Request = (watch_of x).requests in

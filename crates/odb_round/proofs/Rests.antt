@@ -9,8 +9,8 @@ use Rattle.odb_service.specs.Service.{Service}
 use Rattle.odb_service.specs.Session.{Monitor, Revision, refilter}
 use Rattle.odb_tables.specs.Database.{Db}
 use Rattle.odb_round.specs.Foreseen.{Ahead, seen_ahead}
-use Rattle.odb_sessions.specs.Held.{watch_of}
-use Rattle.odb_round.specs.Planned.{Due, Plan, from_monitor, plan_rest, update_of}
+use Rattle.odb_sessions.specs.Marked.{watch_of}
+use Rattle.odb_round.specs.Planned.{Due, Plan, from_monitor, plan_monitors, update_of}
 use Rattle.odb_round.specs.Sending.{Sending, due_sending, update_sending}
 use Rattle.odb_round.proofs.Updates.{refilter_none}
 use Rattle.odb_sessions.specs.Book.{revision_at}
@@ -23,20 +23,20 @@ pub none_yet : (p : Plan) → p ≡ after_none 0 p
 none_yet p = let zero : p.monitors ≡ 0 + p.monitors = omega arith in ap (λ n. let q : Plan = record { items = p.items; monitors = n; out = p.out } in q) zero
 
 abbrev pub rest_of : Service → Db → List Ahead → Plan
-rest_of h db xs = plan_rest h db (map (seen_ahead db) xs)
+rest_of h db xs = plan_monitors h db (map (seen_ahead db) xs)
 
 -- what the client of a monitor is owed
 abbrev pub owed_to : Service → Db → Ahead → Option Due
-owed_to h db x = update_of h db (watch_of x.held).requests (seen_ahead db x)
+owed_to h db x = update_of h db (watch_of x.marked).requests (seen_ahead db x)
 
 abbrev pub sending_to : Service → Revision → Ahead → Option Sending
-sending_to h revision x = update_sending h revision (watch_of x.held).requests (seen_ahead revision.db x)
+sending_to h revision x = update_sending h revision (watch_of x.marked).requests (seen_ahead revision.db x)
 
 -- the same, at the same chains and commits, as it is found out under no other filters
-pub sending_at : (h : Service) (r s : Recent) (k n : Chains) (x : Ahead) → r ≡ s → k ≡ n → update_sending h (revision_at k r) (refilter [] (watch_of x.held).requests) (seen_ahead k.db x) ≡ sending_to h (revision_at n s) x
+pub sending_at : (h : Service) (r s : Recent) (k n : Chains) (x : Ahead) → r ≡ s → k ≡ n → update_sending h (revision_at k r) (refilter [] (watch_of x.marked).requests) (seen_ahead k.db x) ≡ sending_to h (revision_at n s) x
 sending_at h r s k n x commits same =
-    (λ i. let m : Chains = same i in update_sending h (revision_at m (commits i)) (refilter [] (watch_of x.held).requests) (seen_ahead m.db x))
-    ∙ ap (λ (qs : List Request). update_sending h (revision_at n s) qs (seen_ahead n.db x)) (refilter_none (watch_of x.held).requests)
+    (λ i. let m : Chains = same i in update_sending h (revision_at m (commits i)) (refilter [] (watch_of x.marked).requests) (seen_ahead m.db x))
+    ∙ ap (λ (qs : List Request). update_sending h (revision_at n s) qs (seen_ahead n.db x)) (refilter_none (watch_of x.marked).requests)
 
 pub is_mapped : {A B : Type 0} (f : A → B) (o : Option A) → is_some (option_map f o) ≡ is_some o
 is_mapped f None = refl
@@ -94,10 +94,10 @@ rest_done h db xs i n past within len =
     ∙ ap (λ n. let q : Plan = record { items = 0; monitors = n; out = None } in q) none
 
 -- no item is used up
-pub no_items : (h : Service) (db : Db) (ms : List Monitor) → (plan_rest h db ms).items ≡ 0
+pub no_items : (h : Service) (db : Db) (ms : List Monitor) → (plan_monitors h db ms).items ≡ 0
 no_items h db [] = refl
 no_items h db (m ∷ ms) = by (update_of h db m.watch.requests m) (no_items h db ms)
   where
-    by : (o : Option Due) → (plan_rest h db ms).items ≡ 0 → (from_monitor o (plan_rest h db ms)).items ≡ 0
+    by : (o : Option Due) → (plan_monitors h db ms).items ≡ 0 → (from_monitor o (plan_monitors h db ms)).items ≡ 0
     by None rest = rest
     by (Some d) rest = refl

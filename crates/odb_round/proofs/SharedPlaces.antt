@@ -8,7 +8,7 @@ use Rattle.odb_recent.specs.Undo.{Undo}
 use Rattle.odb_request.specs.Request.{Notation, Request}
 use Rattle.odb_sessions.specs.Alike.{Likeness, Stand}
 use Rattle.odb_sessions.specs.Composed.{asked_of}
-use Rattle.odb_sessions.specs.Held.{Held, Sessions, Watched}
+use Rattle.odb_sessions.specs.Marked.{MarkedMonitor, Sessions, Watched}
 use Rattle.odb_round.specs.Jobs.{Keeps, Shared}
 use Rattle.odb_sessions.specs.Represented.Alike.{likeness_in, stand_in}
 use Rattle.odb_round.specs.Represented.Decided.{AreShared, AreSharedPlaced, IsPlaceOf, IsSharedIn}
@@ -40,11 +40,11 @@ pub asked_stands : (ws : List Watched) → map (λ (t : Stand). t.request) (map 
 asked_stands [] = refl
 asked_stands (w ∷ ws) = ap (λ (qs : List Request). w.request ∷ qs) (asked_stands ws)
 
-pub shared_known : (m : Sessions) (w : ℕ × ℕ) (x : Held) (place : Option ℕ) → IsKnownAs m (Some w) x → IsSharedIn m (record { watch = w; likeness = likeness_in x way.Asked; place = place })
+pub shared_known : (m : Sessions) (w : ℕ × ℕ) (x : MarkedMonitor) (place : Option ℕ) → IsKnownAs m (Some w) x → IsSharedIn m (record { watch = w; likeness = likeness_in x way.Asked; place = place })
 shared_known m w x place h = (h.0, h.1, h.2, h.3, h.4 ∙ ap (λ (qs : List Request). let p : Notation × List Request = (x.notation, qs) in Some p) (sym (asked_stands x.tables)))
 
 -- of two that are known by one number and place, where the client of one stands to its tables as that of the other if both ask the same
-pub serves_like : (m : Sessions) (e : Shared) (x y : Held) (w : ℕ × ℕ) → AreAlike m → IsSharedIn m e → IsKnownAs m (Some w) y → e.watch ≡ w → e.likeness ≡ likeness_in x way.Asked
+pub serves_like : (m : Sessions) (e : Shared) (x y : MarkedMonitor) (w : ℕ × ℕ) → AreAlike m → IsSharedIn m e → IsKnownAs m (Some w) y → e.watch ≡ w → e.likeness ≡ likeness_in x way.Asked
     → (asked_of x.tables ≡ asked_of y.tables → map (stand_in way.Asked) x.tables ≡ map (stand_in way.Asked) y.tables) → likeness_in x way.Asked ≡ likeness_in y way.Asked
 serves_like m e x y w alike shared known same is stands =
     let number : shared.1.watch ≡ Some w.0 = shared.3 ∙ ap (λ (v : ℕ × ℕ). Some v.0) same in

@@ -3,7 +3,7 @@ use Rattle.std.proofs.Common.{◌≡◌, Bool, true, false, List, [], map, Optio
 use Rattle.odb_request.specs.Request.{Request}
 use Rattle.odb_sessions.specs.Composed.{all_asked_as, later_job, part_to}
 use Rattle.odb_sessions.specs.Filtered.{Filters, all_parts_again}
-use Rattle.odb_sessions.specs.Held.{Held, Watched}
+use Rattle.odb_sessions.specs.Marked.{MarkedMonitor, Watched}
 use Rattle.odb_sessions.specs.Represented.Job.{AreRefiltered, asked_by, filters_by, job_in}
 use Rattle.odb_sessions.specs.Represented.Under.{filters_in}
 use Rattle.odb_sessions.specs.declared.way.Way.{Way}
@@ -39,7 +39,7 @@ refiltered w ws qs some e = by (filters_by w) some e
     by None some e = absurd (true≢false (sym some))
     by (Some fs) some e = (fs, e)
 
-module _ (db : Db) (x : Held) where
+module _ (db : Db) (x : MarkedMonitor) where
   pub changed_is : (w : Way) (qs : List Request) → is_changed w ≡ true → qs ≡ asked_by x.tables (filters_by w) → later_job x.notation (map (part_to db) (all_asked_as x.tables qs)) ≡ job_in db x w
   changed_is way.First qs is e = absurd (true≢false (sym is))
   changed_is way.Asked qs is e = absurd (true≢false (sym is))

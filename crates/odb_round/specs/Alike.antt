@@ -23,7 +23,7 @@ part_told past db q p (Some f) = record { request = q; told = selected (record q
 
 -- the job of who is like this: a first reply with all, what a client lacks, or the reply to one that had what it asks so many commits ago
 abbrev pub job_ago : Contents → List Undo → Db → Likeness → Option ℕ → Job
-job_ago past us db l None = record { notation = l.notation; first = l.first; reply = l.first; parts = map (λ s. part_told past db s.request s.place s.told) l.stands }
+job_ago past us db l None = record { notation = l.notation; first = l.first; reply = l.first; parts = map (λ s. part_told past db s.request s.version s.told) l.stands }
 job_ago past us db l (Some n) = resumed_job (take n us) db l.notation (map (λ s. s.request) l.stands)
 
 -- where the last commits replaced these
@@ -32,7 +32,7 @@ job_like past us db l = job_ago past us db l l.ago
 
 -- of a reply nothing counts but what is asked, and of which commit the client has it
 abbrev pub stand_first : Request → Stand
-stand_first q = record { request = q; told = None; place = None }
+stand_first q = record { request = q; told = None; version = None }
 
 abbrev pub IsOfRequests : Likeness → Type 0
 IsOfRequests l = (l.first || is_some l.ago) ≡ true → l.stands ≡ map (λ s. stand_first s.request) l.stands

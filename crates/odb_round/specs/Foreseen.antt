@@ -11,7 +11,7 @@ use Rattle.odb_service.specs.Service.{Service}
 use Rattle.odb_service.specs.Session.{Item, Monitor, Revision, refilter}
 use Rattle.odb_sessions.specs.Alike.{Likeness}
 use Rattle.odb_sessions.specs.Composed.{asked_of}
-use Rattle.odb_sessions.specs.Held.{Held, marks_in, view_of, watch_of}
+use Rattle.odb_sessions.specs.Marked.{MarkedMonitor, marks_in, view_of, watch_of}
 use Rattle.odb_round.specs.OfSchema.{AreOfSchema}
 use Rattle.odb_round.specs.Planned.{Due, out_of}
 use Rattle.odb_round.specs.Known.{Basis}
@@ -25,35 +25,35 @@ pub record Foreseen : Type 0 where
   pub recent : Recent
   pub jobs : List Job
   pub likenesses : List Likeness
-  pub held : List Held
+  pub marked : List MarkedMonitor
   pub monitors : List Monitor
 
 -- a monitor: its client has what it was told, or what its tables are now under these filters
 pub record Ahead : Type 0 where
-  pub held : Held
+  pub marked : MarkedMonitor
   pub told : Option Filters
 
-abbrev pub view_ahead : Db → Held → Option Filters → View
+abbrev pub view_ahead : Db → MarkedMonitor → Option Filters → View
 view_ahead db x None = view_of x
 view_ahead db x (Some fs) = query db (refilter fs (watch_of x).requests)
 
 -- as the machine has it
 abbrev pub seen_ahead : Db → Ahead → Monitor
-seen_ahead db a = record { watch = watch_of a.held; view = view_ahead db a.held a.told }
+seen_ahead db a = record { watch = watch_of a.marked; view = view_ahead db a.marked a.told }
 
 abbrev pub marks_ahead : List Ahead → List Mark
-marks_ahead xs = flat_map (λ a. marks_in a.held) xs
+marks_ahead xs = flat_map (λ a. marks_in a.marked) xs
 
 -- what they ask is of the schema
 abbrev pub AreAheadOf : Schema → List Ahead → Type 0
-AreAheadOf s xs = AllByRecursion (λ a. AreOfSchema s (asked_of a.held.tables)) xs
+AreAheadOf s xs = AllByRecursion (λ a. AreOfSchema s (asked_of a.marked.tables)) xs
 
-abbrev pub held_ahead : List Ahead → List Held
-held_ahead xs = map (λ a. a.held) xs
+abbrev pub marked_ahead : List Ahead → List MarkedMonitor
+marked_ahead xs = map (λ a. a.marked) xs
 
 -- nothing is foreseen of it
-abbrev pub as_told : Held → Ahead
-as_told x = record { held = x; told = None }
+abbrev pub as_told : MarkedMonitor → Ahead
+as_told x = record { marked = x; told = None }
 
 -- ---- texts
 

@@ -5,7 +5,7 @@ use Rattle.serde_json.specs.Written.{compact_text}
 use Rattle.odb_atoms.specs.FinMap.{get}
 use Rattle.odb_chain.specs.Chains.{Chains}
 use Rattle.odb_monitor.specs.Job.{Job, updates_of}
-use Rattle.odb_recent.specs.Kept.{kept_of}
+use Rattle.odb_recent.specs.Findable.{findable}
 use Rattle.odb_recent.specs.Recent.{Recent}
 use Rattle.odb_recent.specs.Undo.{Undo}
 use Rattle.odb_schema.specs.Schema.{Schema}
@@ -14,12 +14,12 @@ use Rattle.odb_service.specs.Session.{Revision, Session}
 use Rattle.odb_round.specs.Alike.{AreUnlike, IsLike}
 use Rattle.odb_sessions.specs.Alike.{Likeness}
 use Rattle.odb_sessions.specs.Book.{Book, revision_in}
-use Rattle.odb_sessions.specs.Held.{Held, Kept, Sessions, seen}
+use Rattle.odb_sessions.specs.Marked.{MarkedMonitor, MarkedSession, Sessions, seen}
 use Rattle.odb_round.specs.Planned.{plan}
 use Rattle.odb_round.specs.Sending.{Framed, framed_due}
 use Rattle.odb_round.specs.Taken.{Pending, Text, composed_text, last_text, no_text}
 use Rattle.odb_sessions.specs.Composed.{whole_text, composition}
-use Rattle.odb_round.specs.ByMarks.{IsByMarks, IsDueTo, contents, held_of}
+use Rattle.odb_round.specs.ByMarks.{IsByMarks, IsDueTo, contents, monitors_of}
 use Rattle.odb_sessions.specs.Told.{ToldMarks}
 use Rattle.odb_round.specs.Known.{Basis}
 
@@ -92,15 +92,15 @@ AreOfJobs b js ps = (s : Schema) → AreMadeOf s b js ps
 abbrev pub AreEachOnce : Chains → Revision → List Job → List Likeness → Type 0
 AreEachOnce k revision js ls =
     AreUnlike ls
-    × ((us : List Undo) × (revision.earlier.contents ≡ drop 1 (kept_of revision.db us)) × AllZip (IsLike (contents k) us revision.db) js ls)
+    × ((us : List Undo) × (revision.earlier.contents ≡ drop 1 (findable revision.db us)) × AllZip (IsLike (contents k) us revision.db) js ls)
 
 -- What is composed for the session is composed of a job whose likeness has the marks of the monitor to which this is due
-abbrev pub IsByLikeness : Schema → Revision → List Job → List Likeness → Option Kept → Text → Type 0
+abbrev pub IsByLikeness : Schema → Revision → List Job → List Likeness → Option MarkedSession → Text → Type 0
 IsByLikeness s revision js ls o no_text = Unit {0}
 IsByLikeness s revision js ls o last_text = Unit {0}
 IsByLikeness s revision js ls o (composed_text before body after) =
-    (n : ℕ) × (l : Likeness) × (h : Held) × (composition_at js n ≡ Some body) × (slice_get ls n ≡ Some l)
-    × IsDueTo (option_and_then (λ x. (plan (served_by s) revision.db (seen x)).out) o) (held_of o) h × IsByMarks l h
+    (n : ℕ) × (l : Likeness) × (h : MarkedMonitor) × (composition_at js n ≡ Some body) × (slice_get ls n ≡ Some l)
+    × IsDueTo (option_and_then (λ x. (plan (served_by s) revision.db (seen x)).out) o) (monitors_of o) h × IsByMarks l h
 
 abbrev pub AreByLikenesses : Schema → Revision → Sessions → List Job → List Likeness → List Pending → Type 0
 AreByLikenesses s revision m js ls [] = Unit {0}

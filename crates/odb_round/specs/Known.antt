@@ -2,7 +2,7 @@
 use Rattle.std.specs.Prelude.{IfSome, List, Option, Some, slice_get, ℕ, ◌≡◌}
 use Rattle.odb_atoms.specs.FinMap.{get}
 use Rattle.odb_schema.specs.Schema.{Schema}
-use Rattle.odb_sessions.specs.Held.{Held, Kept, Sessions, monitor_of}
+use Rattle.odb_sessions.specs.Marked.{MarkedMonitor, MarkedSession, Sessions, monitor_of}
 use Rattle.odb_sessions.specs.Watches.{asking_in, asking_of}
 
 -- ---- in a round
@@ -13,9 +13,9 @@ pub record Basis : Type 0 where
   pub sessions : Sessions
 
 -- the monitor stands at this place in a session that has this number
-abbrev pub IsKnownAs : Sessions → Option (ℕ × ℕ) → Held → Type 0
-IsKnownAs m w h = IfSome w (λ p. (s : ℕ) × (x : Kept) × (get m s ≡ Some x) × (x.watch ≡ Some p.0) × (slice_get (asking_in x) p.1 ≡ Some (asking_of (monitor_of h))))
+abbrev pub IsKnownAs : Sessions → Option (ℕ × ℕ) → MarkedMonitor → Type 0
+IsKnownAs m w h = IfSome w (λ p. (s : ℕ) × (x : MarkedSession) × (get m s ≡ Some x) × (x.watch ≡ Some p.0) × (slice_get (asking_in x) p.1 ≡ Some (asking_of (monitor_of h))))
 
 -- these are the monitors of a session that has this number
-abbrev pub AreKnownAs : Sessions → Option ℕ → List Held → Type 0
-AreKnownAs m w hs = IfSome w (λ n. (s : ℕ) × (x : Kept) × (get m s ≡ Some x) × (x.watch ≡ Some n) × (x.monitors ≡ hs))
+abbrev pub AreKnownAs : Sessions → Option ℕ → List MarkedMonitor → Type 0
+AreKnownAs m w hs = IfSome w (λ n. (s : ℕ) × (x : MarkedSession) × (get m s ≡ Some x) × (x.watch ≡ Some n) × (x.monitors ≡ hs))

@@ -74,12 +74,12 @@ module _ (h : Service) where
 
   -- ---- the plan of one taking
 
-  abbrev pub plan_rest : Db → List Monitor → Plan
-  plan_rest db [] = record { items = 0; monitors = 0; out = None }
-  plan_rest db (m ∷ ms) = from_monitor (update_of db m.watch.requests m) (plan_rest db ms)
+  abbrev pub plan_monitors : Db → List Monitor → Plan
+  plan_monitors db [] = record { items = 0; monitors = 0; out = None }
+  plan_monitors db (m ∷ ms) = from_monitor (update_of db m.watch.requests m) (plan_monitors db ms)
 
   abbrev pub plan_from : Db → List Item → List Monitor → Plan
-  plan_from db [] ms = plan_rest db ms
+  plan_from db [] ms = plan_monitors db ms
   plan_from db (i ∷ is) ms = from_item (due db i ms) (plan_from db is (leaves h db i ms))
 
   abbrev pub plan : Db → Session → Plan

@@ -13,7 +13,7 @@ use Rattle.odb_service.specs.Service.{Service}
 use Rattle.odb_service.specs.Session.{Monitor, Revision, Watch, first_result, held_by, notified}
 use Rattle.odb_sessions.specs.Composed.{asked_of, first_job, first_updates, later_job, notified_text, resumed_job, resumed_updates}
 use Rattle.odb_round.specs.Foreseen.{due_text}
-use Rattle.odb_sessions.specs.Held.{Held}
+use Rattle.odb_sessions.specs.Marked.{MarkedMonitor}
 use Rattle.odb_round.specs.Planned.{Due, first_due, grant_due, text_due, update_due, update_of}
 use Rattle.odb_tables.specs.Database.{Db}
 use Rattle.odb_wire.specs.Message.{id_of}
@@ -81,10 +81,10 @@ module _ (h : Service) where
   abbrev pub update_sending : Revision → List Request → Monitor → Option Sending
   update_sending revision qs m = option_map (due_sending revision) (update_of h revision.db qs m)
 
--- ---- the same, by what is kept of a monitor
+-- ---- the same, by a monitor with its marks
 
 -- the notification to the client of this monitor, where this is the number of the newest commit
-abbrev pub notifying : Uuid → Held → Job → Framed
+abbrev pub notifying : Uuid → MarkedMonitor → Job → Framed
 notifying number x j = record { job = j; text = notified_text number x }
 
 -- the reply to this request, with this result by the table updates
@@ -92,24 +92,24 @@ abbrev pub replying : Data → (Data → Data) → Job → Framed
 replying d result j = record { job = j; text = λ u. compact_text (reply (id_of d) (result u)) }
 
 -- the first reply to who named no commit
-abbrev pub whole_sending : Db → Data → Held → Sending
+abbrev pub whole_sending : Db → Data → MarkedMonitor → Sending
 whole_sending db d x = sent_with (replying d (λ u. u) (first_job db x.notation (asked_of x.tables))) (first_updates db x.notation (asked_of x.tables))
 
 -- the first reply where the commit that was named can't be found, and this is the number of the newest
-abbrev pub missed_sending : Uuid → Db → Data → Held → Sending
+abbrev pub missed_sending : Uuid → Db → Data → MarkedMonitor → Sending
 missed_sending number db d x = sent_with (replying d (since_result false number) (first_job db x.notation (asked_of x.tables))) (first_updates db x.notation (asked_of x.tables))
 
 -- the first reply where it was found so many commits ago
-abbrev pub found_sending : Recent → ℕ → Db → Data → Held → Sending
+abbrev pub found_sending : Recent → ℕ → Db → Data → MarkedMonitor → Sending
 found_sending r ago db d x =
     sent_with (replying d (since_result true (number_of r.run r.commits)) (resumed_job (take ago r.undos) db x.notation (asked_of x.tables)))
     (resumed_updates (take ago r.undos) db x.notation (asked_of x.tables))
 
 -- the first reply to who named a commit, where it was found so many commits ago, or not at all
-abbrev pub sending_ago : Recent → Db → Data → Held → Option ℕ → Sending
+abbrev pub sending_ago : Recent → Db → Data → MarkedMonitor → Option ℕ → Sending
 sending_ago r db d x None = missed_sending (number_of r.run r.commits) db d x
 sending_ago r db d x (Some ago) = found_sending r ago db d x
 
 -- the first reply to who named this commit
-abbrev pub sending_since : Recent → Db → Data → Held → Uuid → Sending
+abbrev pub sending_since : Recent → Db → Data → MarkedMonitor → Uuid → Sending
 sending_since r db d x v = sending_ago r db d x (commits_ago r.most r.run r.commits v)

@@ -106,12 +106,11 @@ impl<'a> Bucket<'a> {
     }
 }
 
-/// What was decided, by digests, and the digest of the newest decision: mostly what is alike comes one after the other.
+/// What was decided, by digests.
 #[derive(Drop)]
 pub(crate) struct Decided<'a> {
     alloc: Global,
     buckets: BTreeMap<u64, Bucket<'a>>,
-    newest: u64,
 }
 
 impl<'a> Decided<'a> {
@@ -122,22 +121,11 @@ impl<'a> Decided<'a> {
         Decided {
             alloc,
             buckets: BTreeMap::new(alloc),
-            newest: 0,
         }
     }
 
     /// Returns what was decided of what is composed for the client of this monitor in this way, where all requests are of one
-    /// schema, if that has the digest of the newest decision. No digest is made: O(log n) for n decisions, and a comparison of
-    /// monitors for each that has it.
-    pub(crate) fn find_newest(&self, monitor: &'a Monitor, way: Way<'a>) -> Option<Option<usize>>
-        ensures { IfSome result (λ place. (s : Schema) → AreDecisionsOf s self.now → IsLikenessOf s (likeness_in monitor.now way.entry)
-            → IsThere self.now (record { likeness = likeness_in monitor.now way.entry; place = place })) }
-    {
-        self.find(self.newest, monitor, way)
-    }
-
-    /// Returns the same of the decisions that have this digest. O(log n) for n decisions, and a comparison of monitors for each
-    /// that has it.
+    /// schema, and that has this digest. O(log n) for n decisions, and a comparison of monitors for each that has it.
     pub(crate) fn find(
         &self,
         digest: u64,
@@ -160,7 +148,6 @@ impl<'a> Decided<'a> {
         ensures ok { OnOk result (Puts self.old self.new decision.entry) }
         ensures err { OnErr result (IsSame self.old self.new) }
     {
-        self.newest = digest;
         let Some(bucket) = self.buckets.get_mut(&digest) else {
             return self.put_first(digest, decision);
         };

@@ -8,10 +8,10 @@ ghost use Rattle.odb_sessions.specs.Asked.{is_same};
 ghost use Rattle.std.specs.List.{All, AllByRecursion};
 ghost use Rattle.odb_sessions.specs.FirstTexts.{AreFirstTexts, IsOfNow};
 ghost use Rattle.odb_sessions.specs.Composed.{asked_of};
-ghost use Rattle.odb_round.specs.Foreseen.{AreAheadOf, as_told, held_ahead, marks_ahead, seen_ahead};
-ghost use Rattle.odb_sessions.specs.Held.{marks_in, monitor_of, watch_of};
+ghost use Rattle.odb_round.specs.Foreseen.{AreAheadOf, as_told, marked_ahead, marks_ahead, seen_ahead};
+ghost use Rattle.odb_sessions.specs.Marked.{marks_in, monitor_of, watch_of};
 ghost use Rattle.odb_round.specs.OfSchema.{AreOfSchema, IsMonitorOf};
-ghost use Rattle.odb_round.specs.Planned.{due, plan_rest};
+ghost use Rattle.odb_round.specs.Planned.{due, plan_monitors};
 ghost use Rattle.odb_round.specs.Jobs.{AreEachOnce, Keeps};
 ghost use Rattle.odb_round.specs.Represented.Sending.{Tells};
 ghost use Rattle.odb_round.specs.Represented.Served.{IsServed, place_told};
@@ -50,7 +50,7 @@ impl<'a> Model for Ahead<'a> {
 
     ghost coded = { ahead_code };
 
-    ghost view = { λ a. record { held = a.monitor.now; told = option_map filters_in a.told } };
+    ghost view = { λ a. record { marked = a.monitor.now; told = option_map filters_in a.told } };
 }
 
 impl<'a> Ahead<'a> {
@@ -72,12 +72,12 @@ impl<'a> Ahead<'a> {
         under: Under<'a>,
         watch: Option<WatchId>,
     ) -> Result<Option<Envelope>, AllocError>
-        requires live { AreLive wanted.old.chains (marks_in self.now.held) }
-        requires of { AreOfSchema wanted.old.basis.schema (asked_of self.now.held.tables) }
-        requires known { IsKnownAs wanted.old.basis.sessions watch self.now.held }
+        requires live { AreLive wanted.old.chains (marks_in self.now.marked) }
+        requires of { AreOfSchema wanted.old.basis.schema (asked_of self.now.marked.tables) }
+        requires known { IsKnownAs wanted.old.basis.sessions watch self.now.marked }
         ensures text { IfOk result (λ message. (h : Service) → Tells wanted.new.jobs message
-            (update_sending h (revision_at wanted.old.chains wanted.old.recent) (refilter (filters_in under.entry) (watch_of self.now.held).requests) (seen_ahead wanted.old.chains.db self.now))) }
-        ensures marks { IfOk result (λ message. IsServed wanted.old.likenesses wanted.new.likenesses (λ h. h ≡ self.now.held) (place_told message)) }
+            (update_sending h (revision_at wanted.old.chains wanted.old.recent) (refilter (filters_in under.entry) (watch_of self.now.marked).requests) (seen_ahead wanted.old.chains.db self.now))) }
+        ensures marks { IfOk result (λ message. IsServed wanted.old.likenesses wanted.new.likenesses (λ h. h ≡ self.now.marked) (place_told message)) }
         ensures jobs { Keeps wanted.old.jobs wanted.new.jobs }
         ensures chains { wanted.new.chains ≡ wanted.old.chains }
         ensures recent { wanted.new.recent ≡ wanted.old.recent }
@@ -92,7 +92,7 @@ impl<'a> Ahead<'a> {
 
     /// Returns it, where its client has what its tables are now under these filters.
     fn brought(&self, under: Under<'a>) -> Ahead<'a>
-        ensures { result ≡ record { held = self.now.held; told = Some (filters_in under.entry) } }
+        ensures { result ≡ record { marked = self.now.marked; told = Some (filters_in under.entry) } }
     {
         Ahead {
             monitor: self.monitor,
@@ -102,7 +102,7 @@ impl<'a> Ahead<'a> {
 
     /// Returns whether the monitor has this id.
     fn is_of(&self, id: &Id) -> bool
-        ensures { result ≡ is_same id.now self.now.held.id }
+        ensures { result ≡ is_same id.now self.now.marked.id }
     {
         let monitor = self.monitor;
         monitor.has_id(id)
@@ -121,7 +121,7 @@ fn all_ahead<'a>(alloc: Global, monitors: &'a [Monitor]) -> Result<Vec<Ahead<'a>
 }
 
 fn place_of(monitors: &[Ahead<'_>], id: &Id) -> Option<usize>
-    ensures { result ≡ position (λ a. is_same id.now a.held.id) monitors.now }
+    ensures { result ≡ position (λ a. is_same id.now a.marked.id) monitors.now }
 {
     monitors.iter().position(|known| known.is_of(id))
 }
@@ -139,7 +139,7 @@ fn pass<'a>(
     ensures text { IfOk result (λ message. (s : Schema) → Tells wanted.new.jobs message
         (option_map (due_sending (served_by s) (revision_at wanted.old.chains wanted.old.recent)) (due (served_by s) wanted.old.chains.db (item_in id.now under.entry) (map (seen_ahead wanted.old.chains.db) monitors.old.items)))) }
     ensures marks { IfOk result (λ message. (s : Schema) → IsServed wanted.old.likenesses wanted.new.likenesses
-        (IsDueTo (due (served_by s) wanted.old.chains.db (item_in id.now under.entry) (map (seen_ahead wanted.old.chains.db) monitors.old.items)) (held_ahead monitors.old.items)) (place_told message)) }
+        (IsDueTo (due (served_by s) wanted.old.chains.db (item_in id.now under.entry) (map (seen_ahead wanted.old.chains.db) monitors.old.items)) (marked_ahead monitors.old.items)) (place_told message)) }
     ensures passed { OnOk result ((s : Schema) → map (seen_ahead wanted.old.chains.db) monitors.new.items
         ≡ leaves (served_by s) wanted.old.chains.db (item_in id.now under.entry) (map (seen_ahead wanted.old.chains.db) monitors.old.items)) }
     ensures jobs { Keeps wanted.old.jobs wanted.new.jobs }
@@ -148,7 +148,7 @@ fn pass<'a>(
     ensures basis { wanted.new.basis ≡ wanted.old.basis }
     ensures live { AreLive wanted.old.chains (marks_ahead monitors.new.items) }
     ensures of { AreAheadOf wanted.old.basis.schema monitors.new.items }
-    ensures held { held_ahead monitors.new.items ≡ held_ahead monitors.old.items }
+    ensures marked { marked_ahead monitors.new.items ≡ marked_ahead monitors.old.items }
 {
     let Some(place) = place_of(monitors.as_slice(), id) else {
         return Ok(None);
@@ -161,7 +161,7 @@ fn pass<'a>(
 /// What monitors have due once a session's queue is empty: how many are brought to now, and then what the client
 /// of the last of them is sent.
 #[derive(Drop)]
-pub(crate) struct Rest {
+pub(crate) struct DueMonitors {
     pub(crate) monitors: usize,
     pub(crate) message: Option<Envelope>,
 }
@@ -178,20 +178,20 @@ fn watch_at(watch: Option<u64>, place: usize) -> Option<WatchId>
 
 /// Returns what these monitors have due, which are those of a session that has the number, if there is one. The costs are
 /// those of `Ahead::update` for each monitor up to the first that is owed something.
-fn rest_due<'a>(
+fn due_of<'a>(
     wanted: &mut Wanted<'a>,
     monitors: &[Ahead<'a>],
     watch: Option<u64>,
-) -> Result<Rest, AllocError>
+) -> Result<DueMonitors, AllocError>
     requires live { AreLive wanted.old.chains (marks_ahead monitors.now) }
     requires of { AreAheadOf wanted.old.basis.schema monitors.now }
-    requires known { AreKnownAs wanted.old.basis.sessions watch (held_ahead monitors.now) }
-    ensures monitors { IfOk result (λ rest. (h : Service)
-        → rest.monitors ≡ (plan_rest h wanted.old.chains.db (map (seen_ahead wanted.old.chains.db) monitors.now)).monitors) }
-    ensures text { IfOk result (λ rest. (h : Service) → Tells wanted.new.jobs rest.message
-        (option_map (due_sending h (revision_at wanted.old.chains wanted.old.recent)) (plan_rest h wanted.old.chains.db (map (seen_ahead wanted.old.chains.db) monitors.now)).out)) }
-    ensures marks { IfOk result (λ rest. (h : Service) → IsServed wanted.old.likenesses wanted.new.likenesses
-        (IsDueTo (plan_rest h wanted.old.chains.db (map (seen_ahead wanted.old.chains.db) monitors.now)).out (held_ahead monitors.now)) (place_told rest.message)) }
+    requires known { AreKnownAs wanted.old.basis.sessions watch (marked_ahead monitors.now) }
+    ensures monitors { IfOk result (λ found. (h : Service)
+        → found.monitors ≡ (plan_monitors h wanted.old.chains.db (map (seen_ahead wanted.old.chains.db) monitors.now)).monitors) }
+    ensures text { IfOk result (λ found. (h : Service) → Tells wanted.new.jobs found.message
+        (option_map (due_sending h (revision_at wanted.old.chains wanted.old.recent)) (plan_monitors h wanted.old.chains.db (map (seen_ahead wanted.old.chains.db) monitors.now)).out)) }
+    ensures marks { IfOk result (λ found. (h : Service) → IsServed wanted.old.likenesses wanted.new.likenesses
+        (IsDueTo (plan_monitors h wanted.old.chains.db (map (seen_ahead wanted.old.chains.db) monitors.now)).out (marked_ahead monitors.now)) (place_told found.message)) }
     ensures jobs { Keeps wanted.old.jobs wanted.new.jobs }
     ensures chains { wanted.new.chains ≡ wanted.old.chains }
     ensures recent { wanted.new.recent ≡ wanted.old.recent }
@@ -200,13 +200,13 @@ fn rest_due<'a>(
     for place in 0..monitors.len() {
         let message = monitors[place].update(wanted, Under::Asked, watch_at(watch, place))?;
         if message.is_some() {
-            return Ok(Rest {
+            return Ok(DueMonitors {
                 monitors: place + 1,
                 message,
             });
         }
     }
-    Ok(Rest {
+    Ok(DueMonitors {
         monitors: monitors.len(),
         message: None,
     })
@@ -223,7 +223,7 @@ pub(crate) struct Planner<'a> {
 impl<'a> Model for Planner<'a> {
     ghost use Rattle.std.specs.Prelude.{map};
     ghost use Rattle.odb_round.specs.Foreseen as model;
-    ghost use Rattle.odb_round.specs.Foreseen.{AreAheadOf, held_ahead, marks_ahead, seen_ahead};
+    ghost use Rattle.odb_round.specs.Foreseen.{AreAheadOf, marked_ahead, marks_ahead, seen_ahead};
     ghost use Rattle.odb_round.specs.Represented.Codes.{foreseen_code};
     ghost use Rattle.odb_sessions.specs.Tied.{AreLive};
     ghost use Rattle.odb_round.specs.Known.{AreKnownAs};
@@ -232,9 +232,9 @@ impl<'a> Model for Planner<'a> {
 
     ghost coded = { foreseen_code };
 
-    ghost view = { λ p. record { basis = p.wanted.basis; chains = p.wanted.chains; recent = p.wanted.recent; jobs = p.wanted.jobs; likenesses = p.wanted.likenesses; held = held_ahead p.monitors.items; monitors = map (seen_ahead p.wanted.chains.db) p.monitors.items } };
+    ghost view = { λ p. record { basis = p.wanted.basis; chains = p.wanted.chains; recent = p.wanted.recent; jobs = p.wanted.jobs; likenesses = p.wanted.likenesses; marked = marked_ahead p.monitors.items; monitors = map (seen_ahead p.wanted.chains.db) p.monitors.items } };
 
-    ghost invariant = { λ p. AreLive p.wanted.chains (marks_ahead p.monitors.items) × AreAheadOf p.wanted.basis.schema p.monitors.items × AreKnownAs p.wanted.basis.sessions p.watch (held_ahead p.monitors.items) };
+    ghost invariant = { λ p. AreLive p.wanted.chains (marks_ahead p.monitors.items) × AreAheadOf p.wanted.basis.schema p.monitors.items × AreKnownAs p.wanted.basis.sessions p.watch (marked_ahead p.monitors.items) };
 }
 
 impl<'a> Planner<'a> {
@@ -248,7 +248,7 @@ impl<'a> Planner<'a> {
     ) -> Planner<'a>
         requires firsts { AreFirstTexts chains.now.db firsts.now }
         requires alike { AreAlike basis.sessions }
-        ensures { result ≡ record { basis = basis.entry; chains = chains.now; recent = recent.now; jobs = []; likenesses = []; held = []; monitors = [] } }
+        ensures { result ≡ record { basis = basis.entry; chains = chains.now; recent = recent.now; jobs = []; likenesses = []; marked = []; monitors = [] } }
     {
         Planner {
             wanted: Wanted::new(alloc, basis, chains, recent, firsts),
@@ -268,7 +268,7 @@ impl<'a> Planner<'a> {
         requires of { AllByRecursion (IsMonitorOf self.old.basis.schema) (map monitor_of monitors.now) }
         requires known { AreKnownAs self.old.basis.sessions watch monitors.now }
         ensures monitors { OnOk result (self.new.monitors ≡ map monitor_of monitors.now) }
-        ensures held { OnOk result (self.new.held ≡ monitors.now) }
+        ensures marked { OnOk result (self.new.marked ≡ monitors.now) }
         ensures likenesses { self.new.likenesses ≡ self.old.likenesses }
         ensures jobs { self.new.jobs ≡ self.old.jobs }
         ensures chains { self.new.chains ≡ self.old.chains }
@@ -287,8 +287,8 @@ impl<'a> Planner<'a> {
         ensures text { IfOk result (λ message. (s : Schema) → Tells self.new.jobs message
             (option_map (due_sending (served_by s) (revision_at self.old.chains self.old.recent)) (due (served_by s) self.old.chains.db (item_in id.now under.entry) self.old.monitors))) }
         ensures marks { IfOk result (λ message. (s : Schema) → IsServed self.old.likenesses self.new.likenesses
-            (IsDueTo (due (served_by s) self.old.chains.db (item_in id.now under.entry) self.old.monitors) self.old.held) (place_told message)) }
-        ensures held { self.new.held ≡ self.old.held }
+            (IsDueTo (due (served_by s) self.old.chains.db (item_in id.now under.entry) self.old.monitors) self.old.marked) (place_told message)) }
+        ensures marked { self.new.marked ≡ self.old.marked }
         ensures passed { OnOk result ((s : Schema) → self.new.monitors
             ≡ leaves (served_by s) self.old.chains.db (item_in id.now under.entry) self.old.monitors) }
         ensures jobs { Keeps self.old.jobs self.new.jobs }
@@ -301,20 +301,20 @@ impl<'a> Planner<'a> {
 
     /// Returns what its monitors have due once the queue is empty. The costs are those of `planning::update` for each
     /// monitor up to the first that is owed something.
-    pub(crate) fn rest(&mut self) -> Result<Rest, AllocError>
-        ensures monitors { IfOk result (λ rest. (h : Service)
-            → rest.monitors ≡ (plan_rest h self.old.chains.db self.old.monitors).monitors) }
-        ensures text { IfOk result (λ rest. (h : Service) → Tells self.new.jobs rest.message
-            (option_map (due_sending h (revision_at self.old.chains self.old.recent)) (plan_rest h self.old.chains.db self.old.monitors).out)) }
-        ensures marks { IfOk result (λ rest. (h : Service) → IsServed self.old.likenesses self.new.likenesses
-            (IsDueTo (plan_rest h self.old.chains.db self.old.monitors).out self.old.held) (place_told rest.message)) }
-        ensures held { self.new.held ≡ self.old.held }
+    pub(crate) fn due(&mut self) -> Result<DueMonitors, AllocError>
+        ensures monitors { IfOk result (λ found. (h : Service)
+            → found.monitors ≡ (plan_monitors h self.old.chains.db self.old.monitors).monitors) }
+        ensures text { IfOk result (λ found. (h : Service) → Tells self.new.jobs found.message
+            (option_map (due_sending h (revision_at self.old.chains self.old.recent)) (plan_monitors h self.old.chains.db self.old.monitors).out)) }
+        ensures marks { IfOk result (λ found. (h : Service) → IsServed self.old.likenesses self.new.likenesses
+            (IsDueTo (plan_monitors h self.old.chains.db self.old.monitors).out self.old.marked) (place_told found.message)) }
+        ensures marked { self.new.marked ≡ self.old.marked }
         ensures jobs { Keeps self.old.jobs self.new.jobs }
         ensures chains { self.new.chains ≡ self.old.chains }
         ensures recent { self.new.recent ≡ self.old.recent }
         ensures basis { self.new.basis ≡ self.old.basis }
     {
-        rest_due(&mut self.wanted, self.monitors.as_slice(), self.watch)
+        due_of(&mut self.wanted, self.monitors.as_slice(), self.watch)
     }
 
     /// Returns the jobs, and what each is composed for.

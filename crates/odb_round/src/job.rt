@@ -3,7 +3,7 @@ ghost use Rattle.std.specs.Prelude.{◌≡◌, IfOk, IfSome, Some, is_some, opti
 ghost use Rattle.odb_monitor.specs.Job.{updates_of};
 ghost use Rattle.odb_sessions.specs.Composed.{composition};
 ghost use Rattle.odb_sessions.specs.FirstTexts.{IsFirstText, IsOfNow};
-ghost use Rattle.odb_sessions.specs.Held.{marks_in};
+ghost use Rattle.odb_sessions.specs.Marked.{marks_in};
 ghost use Rattle.odb_sessions.specs.Represented.Composed.{bytes_in, bytes_of};
 ghost use Rattle.odb_sessions.specs.Represented.Job.{asked_by, filters_by, job_in};
 ghost use Rattle.odb_sessions.specs.Tied.{AreLive};
@@ -25,6 +25,9 @@ const LEAST_KEPT: usize = 4096;
 /// heavier may be shared out over several threads later.
 const MOST_AT_ONCE: usize = 4096;
 
+/// Up to how many rows that changed what a client lacks under the filters that it asks is composed as soon as it is planned.
+const FEW_ROWS: usize = 16;
+
 /// What is to be composed for the client of a monitor, with its text where that is known, and with the differences that it is
 /// composed of where they lend nothing of it. Contracts see the job of `odb_monitor` that it is.
 #[derive(Drop)]
@@ -42,7 +45,7 @@ impl<'a> Model for RoundJob<'a> {
     ghost use Rattle.odb_monitor.specs.Job as model;
     ghost use Rattle.odb_monitor.specs.Job.{updates_of};
     ghost use Rattle.odb_monitor.specs.Represented.Part.{job_code};
-    ghost use Rattle.odb_sessions.specs.Held.{marks_in};
+    ghost use Rattle.odb_sessions.specs.Marked.{marks_in};
     ghost use Rattle.odb_sessions.specs.Composed.{composition};
     ghost use Rattle.odb_sessions.specs.Represented.Composed.{bytes_of};
     ghost use Rattle.odb_sessions.specs.Represented.Job.{asked_by, filters_by, job_in};
@@ -103,9 +106,9 @@ impl<'a> RoundJob<'a> {
         })
     }
 
-    /// Tells whether something is sent, and composes at once what is told under other filters and is light, which is so compared
-    /// once. The costs are then those of `weight` and `compose`, else those of `has_updates`.
-    pub(crate) fn settle(&mut self, alloc: Global) -> Result<bool, AllocError>
+    /// Tells whether something is sent, and composes at once what is light, which is so compared once. The costs are then those of
+    /// `weight` and `compose`, else those of `has_updates`.
+    pub(crate) fn decide(&mut self, alloc: Global) -> Result<bool, AllocError>
         ensures job { self.new ≡ self.old }
         ensures sent { IfOk result (λ has. has ≡ is_some (updates_of self.old)) }
     {
@@ -118,14 +121,22 @@ impl<'a> RoundJob<'a> {
         Ok(is_sent)
     }
 
-    /// Returns whether it is told under other filters and is light. The costs are those of `weight`. No contract speaks of it.
+    /// Returns whether it is light, and no reply. The costs are those of `weight`. No contract speaks of it.
     fn is_composed_at_once(&self) -> bool {
         match self.way {
             Way::First => false,
-            Way::Asked => false,
+            Way::Asked => self.lacks_few(),
             Way::Changed(_) => self.weight() <= MOST_AT_ONCE,
             Way::Again(_, _) => self.weight() <= MOST_AT_ONCE,
             Way::Since(_, _) => false,
+        }
+    }
+
+    /// Returns whether few rows changed since its client was told. O(n) for n tables. No contract speaks of it.
+    fn lacks_few(&self) -> bool {
+        match &self.lacks {
+            Some(job) => job.changed_rows() <= FEW_ROWS,
+            None => false,
         }
     }
 

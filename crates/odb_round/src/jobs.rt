@@ -74,7 +74,7 @@ fn body_of(
     match coming {
         None => Ok(None),
         Some(Coming::Queued) => Ok(None),
-        Some(Coming::Composed(envelope)) => body_at(bodies, envelope.job),
+        Some(Coming::Composed(envelope)) => body_at(bodies, envelope.place),
     }
 }
 

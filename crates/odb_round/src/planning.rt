@@ -7,7 +7,7 @@ ghost use Rattle.odb_service.specs.Service.{Service};
 ghost use Rattle.odb_service.specs.Session.{refilter};
 ghost use Rattle.odb_sessions.specs.Composed.{asked_of};
 ghost use Rattle.odb_round.specs.Foreseen.{as_told, seen_ahead};
-ghost use Rattle.odb_sessions.specs.Held.{marks_in, monitor_of, watch_of};
+ghost use Rattle.odb_sessions.specs.Marked.{marks_in, monitor_of, watch_of};
 ghost use Rattle.odb_round.specs.Jobs.{Keeps, certainly, if_sent};
 ghost use Rattle.odb_round.specs.OfSchema.{AreOfSchema};
 ghost use Rattle.odb_round.specs.Represented.Sending.{Tells, sending_under};
@@ -106,7 +106,7 @@ pub(crate) fn update_again<'a>(
     requires live { AreLive wanted.old.chains (marks_in monitor.now) }
     requires of { AreOfSchema wanted.old.basis.schema (asked_of monitor.now.tables) }
     ensures text { IfOk result (λ message. (h : Service) → Tells wanted.new.jobs message
-        (update_sending h (revision_at wanted.old.chains wanted.old.recent) (refilter (filters_in under.entry) (watch_of monitor.now).requests) (seen_ahead wanted.old.chains.db (record { held = monitor.now; told = Some (filters_in told.entry) })))) }
+        (update_sending h (revision_at wanted.old.chains wanted.old.recent) (refilter (filters_in under.entry) (watch_of monitor.now).requests) (seen_ahead wanted.old.chains.db (record { marked = monitor.now; told = Some (filters_in told.entry) })))) }
     ensures marks { IfOk result (λ message. IsServed wanted.old.likenesses wanted.new.likenesses (λ h. h ≡ monitor.now) (place_told message)) }
     ensures jobs { Keeps wanted.old.jobs wanted.new.jobs }
     ensures chains { wanted.new.chains ≡ wanted.old.chains }
@@ -131,8 +131,8 @@ fn notification(
         → option_map (sending_under all) message ≡ option_map certainly (option_map (sent_with (notifying (uuid_of number) monitor.now job)) (updates_of job))) }
     ensures place { IfOk result (λ message. place_told message ≡ place) }
 {
-    let Some(job) = place else {
+    let Some(at) = place else {
         return Ok(None);
     };
-    Ok(Some(monitor.around_updates(alloc, number, job)?))
+    Ok(Some(monitor.around_updates(alloc, number, at)?))
 }

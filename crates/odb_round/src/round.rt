@@ -11,14 +11,14 @@ ghost use Rattle.odb_service.specs.Session as machine;
 ghost use Rattle.odb_service.specs.World.{World, revision_of};
 ghost use Rattle.odb_sessions.specs.Alike.{Likeness};
 ghost use Rattle.odb_sessions.specs.FirstTexts.{IsOfNow};
-ghost use Rattle.odb_sessions.specs.Held.{all_seen, item_seen, seen};
+ghost use Rattle.odb_sessions.specs.Marked.{all_seen, item_seen, seen};
 ghost use Rattle.odb_round.specs.Jobs.{AreByLikenesses, AreByMarks, AreEachOnce, AreMadeOf, AreOfJobs, IsByLikeness, IsOfJob, Keeps};
 ghost use Rattle.odb_round.specs.OfSchema.{AreSessionsOf};
 ghost use Rattle.odb_round.specs.Planned.{AreOnce};
 ghost use Rattle.odb_sessions.specs.Posts.{at_number};
 ghost use Rattle.odb_sessions.specs.Represented.Out.{sent_in};
 ghost use Rattle.odb_sessions.specs.Represented.Composed.{bytes_in};
-ghost use Rattle.odb_sessions.specs.Represented.Queued.{queued_of};
+ghost use Rattle.odb_sessions.specs.Represented.Item.{marked_item_of};
 ghost use Rattle.odb_round.specs.Represented.Taking.{pending_by, pending_of, ready_by, ready_of, text_by, text_planned};
 ghost use Rattle.odb_round.specs.Taken.{AreOf, AreReady, IsReadyFor, begins_finished, given_by, is_finished, sessions_in, text_taken};
 ghost use Rattle.odb_sessions.specs.Tied.{AreAllLive};
@@ -165,7 +165,6 @@ fn take(sessions: &mut Sessions, planned: Planned) -> Option<Out>
         coming,
     } = taking;
     let queued = sessions.carry_out(session, items, monitors);
-    sessions.forget_if_resting(session);
     message(sessions.alloc(), session, coming, queued, body)
 }
 
@@ -221,13 +220,23 @@ pub fn give_round(
     let bodies = jobs.compose()?;
     let first = jobs.first_text(bodies.as_slice())?;
     let prepared = jobs.finish(bodies.as_slice())?;
-    sessions.keep(first);
-    Ok(accept_round(sessions, prepared))
+    sessions.add_first_text(first);
+    let outs = accept_round(sessions, prepared);
+    forget_each(sessions, listed);
+    Ok(outs)
+}
+
+/// Forgets of these sessions those that are found to be owed nothing. What `Sessions::forget_resting` costs, for each.
+fn forget_each(sessions: &mut Sessions, listed: &[SessionId])
+    ensures { sessions.new ≡ sessions.old }
+{
+    for session in listed {
+        sessions.forget_resting(*session, 1);
+    }
 }
 
 /// Gives a session its next message, where that is a text which was finished when it was queued: so it is the round of this
-/// session alone. Else it gives nothing, and nothing has changed. It takes no memory. O(log n) for n sessions, and what
-/// `Sessions::forget_if_resting` costs.
+/// session alone. Else it gives nothing, and nothing has changed. It takes no memory. O(log n) for n sessions.
 pub fn take_finished(sessions: &mut Sessions, session: SessionId) -> Option<Out>
     ensures round { IfSome result (λ out. (schema : Schema) (w : World) → revision_of w ≡ revision_in sessions.old → w.sessions ≡ sessions.old.sessions
         → (let r = take_each (served_by schema) (session ∷ []) w in (r.0 ≡ record w { sessions = sessions.new.sessions }) × (map printed r.1 ≡ sent_in out ∷ []))) }
@@ -266,7 +275,7 @@ fn is_finished(sessions: &Sessions, session: SessionId) -> bool
 
 /// Returns whether these items begin with one whose text was finished when it was queued. O(1).
 fn begins_finished(items: &VecDeque<Item>) -> bool
-    ensures { result ≡ begins_finished (map item_seen (map queued_of items.now.items)) }
+    ensures { result ≡ begins_finished (map item_seen (map marked_item_of items.now.items)) }
 {
     let Some(first) = items.front() else {
         return false;

@@ -5,7 +5,7 @@ ghost use Rattle.odb_chain.specs.Chains.{Chains};
 ghost use Rattle.odb_monitor.specs.Job.{Job};
 ghost use Rattle.odb_recent.specs.Undo.{Undo};
 ghost use Rattle.odb_sessions.specs.Alike.{Likeness};
-ghost use Rattle.odb_sessions.specs.Held as held;
+ghost use Rattle.odb_sessions.specs.Marked as marked;
 ghost use Rattle.odb_sessions.specs.Represented.Alike.{likeness_in};
 ghost use Rattle.odb_round.specs.Represented.Decided.{ArePlacesOf, AreSharedPlaced, IsPlaceOf, IsSharedIn};
 ghost use Rattle.odb_round.specs.Represented.Served.{IsAtPlace};
@@ -57,7 +57,7 @@ impl<'a> SharedJob<'a> {
     /// Returns whether the client of the monitor that is known so lacks the same. `false` says nothing. O(1) where they are
     /// known by different numbers, and else O(n) for n tables.
     fn serves(&self, monitor: &Monitor, watch: WatchId) -> bool
-        ensures { result ≡ true → (m : held.Sessions) → AreAlike m → IsSharedIn m self.now → IsKnownAs m (Some watch) monitor.now
+        ensures { result ≡ true → (m : marked.Sessions) → AreAlike m → IsSharedIn m self.now → IsKnownAs m (Some watch) monitor.now
             → self.now.likeness ≡ likeness_in monitor.now way.Asked }
     {
         let own = self.monitor;
@@ -103,9 +103,9 @@ impl<'a> SharedJobs<'a> {
     /// Returns the place of the job for the client of the monitor that is known so, if one of these serves it. A comparison of
     /// numbers for each, and O(n) for n tables for those that have its number.
     pub(crate) fn find(&self, monitor: &Monitor, watch: WatchId) -> Option<Option<usize>>
-        ensures job { IfSome result (λ place. (m : held.Sessions) (k : Chains) (us : List Undo) (js : List Job) → AreAlike m → All (IsSharedIn m) self.now → IsKnownAs m (Some watch) monitor.now
+        ensures job { IfSome result (λ place. (m : marked.Sessions) (k : Chains) (us : List Undo) (js : List Job) → AreAlike m → All (IsSharedIn m) self.now → IsKnownAs m (Some watch) monitor.now
             → ArePlacesOf k us js self.now → IsPlaceOf k us js (likeness_in monitor.now way.Asked) place) }
-        ensures likeness { IfSome result (λ place. (m : held.Sessions) (ls : List Likeness) → AreAlike m → All (IsSharedIn m) self.now → IsKnownAs m (Some watch) monitor.now
+        ensures likeness { IfSome result (λ place. (m : marked.Sessions) (ls : List Likeness) → AreAlike m → All (IsSharedIn m) self.now → IsKnownAs m (Some watch) monitor.now
             → AreSharedPlaced ls self.now → IsAtPlace ls (likeness_in monitor.now way.Asked) place) }
     {
         for job in &self.jobs {
@@ -116,9 +116,9 @@ impl<'a> SharedJobs<'a> {
         None
     }
 
-    /// Keeps one more, where fewer are kept than may be. Where memory is refused it isn't kept.
-    pub(crate) fn keep(&mut self, job: SharedJob<'a>)
-        ensures shared { (m : held.Sessions) → IsSharedIn m job.entry → All (IsSharedIn m) self.old → All (IsSharedIn m) self.new }
+    /// Adds a job, where fewer are kept than may be. Where memory is refused it isn't kept.
+    pub(crate) fn add(&mut self, job: SharedJob<'a>)
+        ensures shared { (m : marked.Sessions) → IsSharedIn m job.entry → All (IsSharedIn m) self.old → All (IsSharedIn m) self.new }
         ensures places { (k : Chains) (us : List Undo) (js : List Job) → IsPlaceOf k us js job.entry.likeness job.entry.place → ArePlacesOf k us js self.old → ArePlacesOf k us js self.new }
         ensures placed { (ls : List Likeness) → IsAtPlace ls job.entry.likeness job.entry.place → AreSharedPlaced ls self.old → AreSharedPlaced ls self.new }
     {

@@ -11,18 +11,18 @@ ghost use Rattle.odb_service.specs.Service.{Service};
 ghost use Rattle.odb_service.specs.Session as machine;
 ghost use Rattle.odb_service.specs.Session.{leaves};
 ghost use Rattle.odb_sessions.specs.Composed.{asked_of};
-ghost use Rattle.odb_sessions.specs.Held.{item_seen, marks_due, marks_in, marks_of, seen, watch_of};
+ghost use Rattle.odb_sessions.specs.Marked.{item_seen, marks_due, marks_in, marks_of, seen, watch_of};
 ghost use Rattle.odb_round.specs.OfSchema.{AreOfSchema, IsItemOf, IsSessionOf};
 ghost use Rattle.odb_round.specs.Planned.{due, first_due, plan, plan_from};
 ghost use Rattle.odb_round.specs.Jobs.{Keeps};
 ghost use Rattle.odb_round.specs.Represented.Sending.{sending_under};
-ghost use Rattle.odb_sessions.specs.Represented.Queued.{queued_of};
+ghost use Rattle.odb_sessions.specs.Represented.Item.{marked_item_of};
 ghost use Rattle.odb_round.specs.Represented.Served.{IsServed, place_coming, place_told};
 ghost use Rattle.odb_round.specs.Represented.Taking.{Comes, Gives, coming_sending, taking_sending};
 ghost use Rattle.odb_sessions.specs.Represented.Under.{item_in};
 ghost use Rattle.odb_round.specs.Sending.{due_sending, found_sending, missed_sending, sending_since, whole_sending};
 ghost use Rattle.odb_sessions.specs.Tied.{AreLive};
-ghost use Rattle.odb_round.specs.ByMarks.{IsDueTo, held_due, held_in};
+ghost use Rattle.odb_round.specs.ByMarks.{IsDueTo, monitors_due, monitors_in};
 ghost use Rattle.odb_tables.specs.Database as model_db;
 ghost use Rattle.odb_sessions.specs.Book.{revision_at};
 
@@ -70,7 +70,7 @@ fn first_reply<'a>(start: &'a FirstReply, wanted: &mut Wanted<'a>) -> Result<Env
     requires of { AreOfSchema wanted.old.basis.schema (asked_of start.now.monitor.tables) }
     ensures text { IfOk result (λ message. (h : Service) (all : List model_job.Job) → Keeps wanted.new.jobs all
         → sending_under all message ≡ Some (due_sending h (revision_at wanted.old.chains wanted.old.recent) (first_due start.now.origin (watch_of start.now.monitor)))) }
-    ensures marks { IfOk result (λ message. IsServed wanted.old.likenesses wanted.new.likenesses (λ h. h ≡ start.now.monitor) (Some message.job)) }
+    ensures marks { IfOk result (λ message. IsServed wanted.old.likenesses wanted.new.likenesses (λ h. h ≡ start.now.monitor) (Some message.place)) }
     ensures jobs { Keeps wanted.old.jobs wanted.new.jobs }
     ensures chains { wanted.new.chains ≡ wanted.old.chains }
     ensures recent { wanted.new.recent ≡ wanted.old.recent }
@@ -89,14 +89,14 @@ fn whole_reply<'a>(start: &'a FirstReply, wanted: &mut Wanted<'a>) -> Result<Env
     requires of { AreOfSchema wanted.old.basis.schema (asked_of start.now.monitor.tables) }
     ensures text { IfOk result (λ message. (all : List model_job.Job) → Keeps wanted.new.jobs all
         → sending_under all message ≡ Some (whole_sending wanted.old.chains.db start.now.origin start.now.monitor)) }
-    ensures marks { IfOk result (λ message. IsServed wanted.old.likenesses wanted.new.likenesses (λ h. h ≡ start.now.monitor) (Some message.job)) }
+    ensures marks { IfOk result (λ message. IsServed wanted.old.likenesses wanted.new.likenesses (λ h. h ≡ start.now.monitor) (Some message.place)) }
     ensures jobs { Keeps wanted.old.jobs wanted.new.jobs }
     ensures chains { wanted.new.chains ≡ wanted.old.chains }
     ensures recent { wanted.new.recent ≡ wanted.old.recent }
     ensures basis { wanted.new.basis ≡ wanted.old.basis }
 {
-    let job = wanted.first_reply(&start.monitor)?;
-    start.origin.reply(wanted.alloc(), job)
+    let place = wanted.first_reply(&start.monitor)?;
+    start.origin.reply(wanted.alloc(), place)
 }
 
 /// Returns the first reply, where this commit was named.
@@ -110,7 +110,7 @@ fn reply_since<'a>(
     ensures text { IfOk result (λ message. (all : List model_job.Job) → Keeps wanted.new.jobs all
         → sending_under all message ≡ Some (sending_since wanted.old.recent wanted.old.chains.db start.now.origin start.now.monitor (uuid_of since))) }
     ensures kept { IfSome (commits_ago wanted.old.recent.most wanted.old.recent.run wanted.old.recent.commits (uuid_of since)) (λ ago. ago ≤ length wanted.old.recent.undos) }
-    ensures marks { IfOk result (λ message. IsServed wanted.old.likenesses wanted.new.likenesses (λ h. h ≡ start.now.monitor) (Some message.job)) }
+    ensures marks { IfOk result (λ message. IsServed wanted.old.likenesses wanted.new.likenesses (λ h. h ≡ start.now.monitor) (Some message.place)) }
     ensures jobs { Keeps wanted.old.jobs wanted.new.jobs }
     ensures chains { wanted.new.chains ≡ wanted.old.chains }
     ensures recent { wanted.new.recent ≡ wanted.old.recent }
@@ -133,16 +133,16 @@ fn not_found<'a>(
     requires of { AreOfSchema wanted.old.basis.schema (asked_of start.now.monitor.tables) }
     ensures text { IfOk result (λ message. (all : List model_job.Job) → Keeps wanted.new.jobs all
         → sending_under all message ≡ Some (missed_sending (uuid_of number) wanted.old.chains.db start.now.origin start.now.monitor)) }
-    ensures marks { IfOk result (λ message. IsServed wanted.old.likenesses wanted.new.likenesses (λ h. h ≡ start.now.monitor) (Some message.job)) }
+    ensures marks { IfOk result (λ message. IsServed wanted.old.likenesses wanted.new.likenesses (λ h. h ≡ start.now.monitor) (Some message.place)) }
     ensures jobs { Keeps wanted.old.jobs wanted.new.jobs }
     ensures chains { wanted.new.chains ≡ wanted.old.chains }
     ensures recent { wanted.new.recent ≡ wanted.old.recent }
     ensures basis { wanted.new.basis ≡ wanted.old.basis }
 {
-    let job = wanted.first_reply(&start.monitor)?;
+    let place = wanted.first_reply(&start.monitor)?;
     start
         .origin
-        .numbered_reply(wanted.alloc(), false, number, job)
+        .numbered_reply(wanted.alloc(), false, number, place)
 }
 
 /// Returns the first reply, where the commit that was named is found so many commits ago.
@@ -156,17 +156,17 @@ fn found<'a>(
     requires kept { ago ≤ length wanted.old.recent.undos }
     ensures text { IfOk result (λ message. (all : List model_job.Job) → Keeps wanted.new.jobs all
         → sending_under all message ≡ Some (found_sending wanted.old.recent ago wanted.old.chains.db start.now.origin start.now.monitor)) }
-    ensures marks { IfOk result (λ message. IsServed wanted.old.likenesses wanted.new.likenesses (λ h. h ≡ start.now.monitor) (Some message.job)) }
+    ensures marks { IfOk result (λ message. IsServed wanted.old.likenesses wanted.new.likenesses (λ h. h ≡ start.now.monitor) (Some message.place)) }
     ensures jobs { Keeps wanted.old.jobs wanted.new.jobs }
     ensures chains { wanted.new.chains ≡ wanted.old.chains }
     ensures recent { wanted.new.recent ≡ wanted.old.recent }
     ensures basis { wanted.new.basis ≡ wanted.old.basis }
 {
     let number = wanted.number();
-    let job = wanted.resume(&start.monitor, ago)?;
+    let place = wanted.resume(&start.monitor, ago)?;
     start
         .origin
-        .numbered_reply(wanted.alloc(), true, number, job)
+        .numbered_reply(wanted.alloc(), true, number, place)
 }
 
 impl<'a> Planner<'a> {
@@ -178,7 +178,7 @@ impl<'a> Planner<'a> {
         ensures text { IfOk result (λ coming. (h : Service) (last : Option machine.Item) → Comes self.new.jobs coming last
             (Some (due_sending h (revision_at self.old.chains self.old.recent) (first_due start.now.origin (watch_of start.now.monitor))))) }
         ensures marks { IfOk result (λ coming. IsServed self.old.likenesses self.new.likenesses (λ h. h ≡ start.now.monitor) (place_coming coming)) }
-        ensures held { self.new.held ≡ self.old.held }
+        ensures marked { self.new.marked ≡ self.old.marked }
         ensures jobs { Keeps self.old.jobs self.new.jobs }
         ensures chains { self.new.chains ≡ self.old.chains }
         ensures recent { self.new.recent ≡ self.old.recent }
@@ -195,8 +195,8 @@ impl<'a> Planner<'a> {
         ensures text { IfOk result (λ coming. (s : Schema) (last : Option machine.Item) → Comes self.new.jobs coming last
             (option_map (due_sending (served_by s) (revision_at self.old.chains self.old.recent)) (due (served_by s) self.old.chains.db (item_in id.now under.entry) self.old.monitors))) }
         ensures marks { IfOk result (λ coming. (s : Schema) → IsServed self.old.likenesses self.new.likenesses
-            (IsDueTo (due (served_by s) self.old.chains.db (item_in id.now under.entry) self.old.monitors) self.old.held) (place_coming coming)) }
-        ensures held { self.new.held ≡ self.old.held }
+            (IsDueTo (due (served_by s) self.old.chains.db (item_in id.now under.entry) self.old.monitors) self.old.marked) (place_coming coming)) }
+        ensures marked { self.new.marked ≡ self.old.marked }
         ensures passed { OnOk result ((s : Schema)
             → self.new.monitors ≡ leaves (served_by s) self.old.chains.db (item_in id.now under.entry) self.old.monitors) }
         ensures jobs { Keeps self.old.jobs self.new.jobs }
@@ -211,17 +211,17 @@ impl<'a> Planner<'a> {
     /// Returns what the item gives the client. Where that is nothing the monitors are foreseen as they are after it.
     /// The costs are those of `Planner::pass` and of `first_reply`.
     fn give(&mut self, item: &'a Item) -> Result<Option<Coming>, AllocError>
-        requires live { AreLive self.old.chains (marks_due (queued_of item.now)) }
-        requires of { IsItemOf self.old.basis.schema (item_seen (queued_of item.now)) }
+        requires live { AreLive self.old.chains (marks_due (marked_item_of item.now)) }
+        requires of { IsItemOf self.old.basis.schema (item_seen (marked_item_of item.now)) }
         ensures comes { IfOk result (λ coming. (s : Schema) → is_some coming
-            ≡ is_some (due (served_by s) self.old.chains.db (item_seen (queued_of item.now)) self.old.monitors)) }
-        ensures text { IfOk result (λ coming. (s : Schema) → Comes self.new.jobs coming (Some (item_seen (queued_of item.now)))
-            (option_map (due_sending (served_by s) (revision_at self.old.chains self.old.recent)) (due (served_by s) self.old.chains.db (item_seen (queued_of item.now)) self.old.monitors))) }
+            ≡ is_some (due (served_by s) self.old.chains.db (item_seen (marked_item_of item.now)) self.old.monitors)) }
+        ensures text { IfOk result (λ coming. (s : Schema) → Comes self.new.jobs coming (Some (item_seen (marked_item_of item.now)))
+            (option_map (due_sending (served_by s) (revision_at self.old.chains self.old.recent)) (due (served_by s) self.old.chains.db (item_seen (marked_item_of item.now)) self.old.monitors))) }
         ensures marks { IfOk result (λ coming. (s : Schema) → IsServed self.old.likenesses self.new.likenesses
-            (IsDueTo (due (served_by s) self.old.chains.db (item_seen (queued_of item.now)) self.old.monitors) (self.old.held ++ held_due (queued_of item.now))) (place_coming coming)) }
-        ensures held { self.new.held ≡ self.old.held }
+            (IsDueTo (due (served_by s) self.old.chains.db (item_seen (marked_item_of item.now)) self.old.monitors) (self.old.marked ++ monitors_due (marked_item_of item.now))) (place_coming coming)) }
+        ensures marked { self.new.marked ≡ self.old.marked }
         ensures passed { IfOk result (λ coming. is_some coming ≡ false → (s : Schema)
-            → self.new.monitors ≡ leaves (served_by s) self.old.chains.db (item_seen (queued_of item.now)) self.old.monitors) }
+            → self.new.monitors ≡ leaves (served_by s) self.old.chains.db (item_seen (marked_item_of item.now)) self.old.monitors) }
         ensures jobs { Keeps self.old.jobs self.new.jobs }
         ensures chains { self.new.chains ≡ self.old.chains }
         ensures recent { self.new.recent ≡ self.old.recent }
@@ -242,12 +242,12 @@ impl<'a> Planner<'a> {
 fn at_once(items: &VecDeque<Item>) -> Option<Taking>
     ensures place { IfSome result (λ taking. place_coming taking.coming ≡ None) }
     ensures items { IfSome result (λ taking. (s : Schema) (db : model_db.Db) (ms : List machine.Monitor) → taking.items
-        ≡ (plan_from (served_by s) db (map item_seen (map queued_of items.now.items)) ms).items) }
+        ≡ (plan_from (served_by s) db (map item_seen (map marked_item_of items.now.items)) ms).items) }
     ensures monitors { IfSome result (λ taking. (s : Schema) (db : model_db.Db) (ms : List machine.Monitor) → taking.monitors
-        ≡ (plan_from (served_by s) db (map item_seen (map queued_of items.now.items)) ms).monitors) }
+        ≡ (plan_from (served_by s) db (map item_seen (map marked_item_of items.now.items)) ms).monitors) }
     ensures text { IfSome result (λ taking. (s : Schema) (revision : machine.Revision) (ms : List machine.Monitor) (all : List model_job.Job)
-        → taking_sending all taking (map item_seen (map queued_of items.now.items))
-        ≡ option_map (due_sending (served_by s) revision) (plan_from (served_by s) revision.db (map item_seen (map queued_of items.now.items)) ms).out) }
+        → taking_sending all taking (map item_seen (map marked_item_of items.now.items))
+        ≡ option_map (due_sending (served_by s) revision) (plan_from (served_by s) revision.db (map item_seen (map marked_item_of items.now.items)) ms).out) }
 {
     let first = items.front()?;
     if !first.is_finished() {
@@ -261,19 +261,19 @@ fn at_once(items: &VecDeque<Item>) -> Option<Taking>
 }
 
 /// Returns what a taking of these items uses up, and what comes. The costs are those of `Planner::give` for each item
-/// up to the first that gives something and, where none does, of `Planner::rest`.
+/// up to the first that gives something and, where none does, of `Planner::due`.
 fn taking_of<'a>(items: &'a VecDeque<Item>, planner: &mut Planner<'a>) -> Result<Taking, AllocError>
-    requires live { AreLive planner.old.chains (flat_map marks_due (map queued_of items.now.items)) }
-    requires of { AllByRecursion (IsItemOf planner.old.basis.schema) (map item_seen (map queued_of items.now.items)) }
+    requires live { AreLive planner.old.chains (flat_map marks_due (map marked_item_of items.now.items)) }
+    requires of { AllByRecursion (IsItemOf planner.old.basis.schema) (map item_seen (map marked_item_of items.now.items)) }
     ensures items { IfOk result (λ taking. (s : Schema) → taking.items
-        ≡ (plan_from (served_by s) planner.old.chains.db (map item_seen (map queued_of items.now.items)) planner.old.monitors).items) }
+        ≡ (plan_from (served_by s) planner.old.chains.db (map item_seen (map marked_item_of items.now.items)) planner.old.monitors).items) }
     ensures monitors { IfOk result (λ taking. (s : Schema) → taking.monitors
-        ≡ (plan_from (served_by s) planner.old.chains.db (map item_seen (map queued_of items.now.items)) planner.old.monitors).monitors) }
-    ensures text { IfOk result (λ taking. (s : Schema) → Gives planner.new.jobs taking (map item_seen (map queued_of items.now.items))
+        ≡ (plan_from (served_by s) planner.old.chains.db (map item_seen (map marked_item_of items.now.items)) planner.old.monitors).monitors) }
+    ensures text { IfOk result (λ taking. (s : Schema) → Gives planner.new.jobs taking (map item_seen (map marked_item_of items.now.items))
         (option_map (due_sending (served_by s) (revision_at planner.old.chains planner.old.recent))
-        (plan_from (served_by s) planner.old.chains.db (map item_seen (map queued_of items.now.items)) planner.old.monitors).out)) }
+        (plan_from (served_by s) planner.old.chains.db (map item_seen (map marked_item_of items.now.items)) planner.old.monitors).out)) }
     ensures marks { IfOk result (λ taking. (s : Schema) → IsServed planner.old.likenesses planner.new.likenesses
-        (IsDueTo (plan_from (served_by s) planner.old.chains.db (map item_seen (map queued_of items.now.items)) planner.old.monitors).out (planner.old.held ++ flat_map held_due (map queued_of items.now.items))) (place_coming taking.coming)) }
+        (IsDueTo (plan_from (served_by s) planner.old.chains.db (map item_seen (map marked_item_of items.now.items)) planner.old.monitors).out (planner.old.marked ++ flat_map monitors_due (map marked_item_of items.now.items))) (place_coming taking.coming)) }
     ensures jobs { Keeps planner.old.jobs planner.new.jobs }
     ensures chains { planner.new.chains ≡ planner.old.chains }
     ensures recent { planner.new.recent ≡ planner.old.recent }
@@ -289,11 +289,11 @@ fn taking_of<'a>(items: &'a VecDeque<Item>, planner: &mut Planner<'a>) -> Result
             });
         }
     }
-    let rest = planner.rest()?;
+    let due = planner.due()?;
     Ok(Taking {
         items: items.len(),
-        monitors: rest.monitors,
-        coming: composed(rest.message),
+        monitors: due.monitors,
+        coming: composed(due.message),
     })
 }
 
@@ -313,7 +313,7 @@ pub(crate) fn taking_from<'a>(
     ensures text { IfOk result (λ taking. (s : Schema) → Gives planner.new.jobs taking (seen session.now).queue
         (option_map (due_sending (served_by s) (revision_at planner.old.chains planner.old.recent)) (plan (served_by s) planner.old.chains.db (seen session.now)).out)) }
     ensures marks { IfOk result (λ taking. (s : Schema) → IsServed planner.old.likenesses planner.new.likenesses
-        (IsDueTo (plan (served_by s) planner.old.chains.db (seen session.now)).out (held_in session.now)) (place_coming taking.coming)) }
+        (IsDueTo (plan (served_by s) planner.old.chains.db (seen session.now)).out (monitors_in session.now)) (place_coming taking.coming)) }
     ensures jobs { Keeps planner.old.jobs planner.new.jobs }
     ensures chains { planner.new.chains ≡ planner.old.chains }
     ensures recent { planner.new.recent ≡ planner.old.recent }

@@ -7,7 +7,7 @@ ghost use Rattle.odb_recent.specs.Recent.{commits_ago, number_of};
 ghost use Rattle.odb_sessions.specs.Book.{revision_at};
 ghost use Rattle.odb_sessions.specs.Composed.{asked_of, owed_job, resumed_job};
 ghost use Rattle.odb_sessions.specs.FirstTexts.{AreFirstTexts, IsOfNow};
-ghost use Rattle.odb_sessions.specs.Held.{marks_in};
+ghost use Rattle.odb_sessions.specs.Marked.{marks_in};
 ghost use Rattle.odb_round.specs.Jobs.{AreEachOnce, IsFor, Keeps, if_sent};
 ghost use Rattle.odb_round.specs.OfSchema.{AreOfSchema};
 ghost use Rattle.odb_round.specs.Represented.Decided.{IsFoundIn, IsSame, Puts};
@@ -253,12 +253,12 @@ impl<'a> Wanted<'a> {
         let Some(watch) = watch else {
             return;
         };
-        self.shared.keep(SharedJob::new(monitor, watch, place));
+        self.shared.add(SharedJob::new(monitor, watch, place));
     }
 
     /// Returns the place of the job for the client of a monitor; `None` where nothing is sent. What was decided of what
-    /// is alike serves again: the costs are those of `Decided::find_newest`; where that finds nothing those of one digest
-    /// and of `Decided::find` too, and where that doesn't those of `RoundJob::settle`.
+    /// is alike serves again: the costs are those of `digest_of` and of `Decided::find`, and where that finds nothing those of
+    /// `RoundJob::decide`.
     pub(crate) fn want(
         &mut self,
         monitor: &'a Monitor,
@@ -275,15 +275,12 @@ impl<'a> Wanted<'a> {
         ensures recent { self.new.recent ≡ self.old.recent }
         ensures basis { self.new.basis ≡ self.old.basis }
     {
-        if let Some(place) = self.decided.find_newest(monitor, way) {
-            return Ok(place);
-        }
         let digest = digest_of(monitor, way);
         if let Some(place) = self.decided.find(digest, monitor, way) {
             return Ok(place);
         }
         let mut job = self.job(monitor, way)?;
-        let is_sent = job.settle(self.alloc)?;
+        let is_sent = job.decide(self.alloc)?;
         if !is_sent {
             self.decided.put(digest, Decision::new(monitor, way, None))?;
             return Ok(None);

@@ -20,7 +20,7 @@ use crate::monitor::{
 use crate::printable::Printable;
 use odb_atoms::Error;
 use odb_json::is_insert;
-use odb_request::Kind;
+use odb_request::Notation;
 use odb_schema::{Schema, is_id};
 use odb_wire::Request;
 use serde_json::Value;
@@ -209,8 +209,8 @@ impl Method {
             Method::ListDatabases => list_databases(items.as_slice()),
             Method::GetSchema => get_schema(items.as_slice(), database),
             Method::Transact => transact(items.as_slice(), database),
-            Method::Monitor => read_monitor(items.as_slice(), database, Kind::Monitor),
-            Method::MonitorCond => read_monitor(items.as_slice(), database, Kind::MonitorCond),
+            Method::Monitor => read_monitor(items.as_slice(), database, Notation::Monitor),
+            Method::MonitorCond => read_monitor(items.as_slice(), database, Notation::MonitorCond),
             Method::MonitorCondSince => read_monitor_since(items.as_slice(), database),
             Method::MonitorCondChange => read_monitor_change(items.as_slice()),
             Method::MonitorCancel => read_monitor_cancel(items.as_slice()),

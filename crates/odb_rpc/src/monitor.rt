@@ -5,14 +5,14 @@ ghost use Rattle.std.specs.List.{list_any};
 ghost use Rattle.serde_json.specs.Data.{Data};
 ghost use Rattle.serde_json.specs.View.{view};
 ghost use Rattle.odb_atoms.specs.Uuid.{uuid_from};
-ghost use Rattle.odb_request.specs.Represented.Kind.{notation_of};
+ghost use Rattle.odb_request.specs.Represented.Notation.{notation_of};
 ghost use Rattle.odb_wire.specs.Message.{has_left_out};
 ghost use Rattle.odb_rpc.specs.Message.{cancel_monitor, commit_of, is_object, of_change, of_monitor, of_monitor_since, of_one};
 ghost use Rattle.odb_rpc.specs.Represented.Call.{outcome};
 
 use crate::call::{Call, CallFault, check_database};
 use crate::printable::Printable;
-use odb_request::Kind;
+use odb_request::Notation;
 use odb_schema::parse_uuid;
 use serde_json::Value;
 
@@ -32,7 +32,7 @@ pub enum MonitorCall<'a> {
 #[derive(Clone, Copy)]
 pub struct MonitorStart<'a> {
     /// In which notation it is told: `monitor_cond_since` asks for that of `monitor_cond`.
-    pub kind: Kind,
+    pub notation: Notation,
     /// Its id, any JSON.
     pub id: Printable<'a>,
     /// Its requests, an object.
@@ -61,11 +61,11 @@ pub struct MonitorChange<'a> {
 pub(crate) fn read_monitor<'a>(
     params: &'a [Value],
     database: &str,
-    kind: Kind,
+    notation: Notation,
 ) -> Result<Call<'a>, CallFault>
     requires { list_any has_left_out (map view params.now) ≡ false }
     ensures { (json id : Data) → outcome database.now json id result
-        ≡ of_monitor database.now id (notation_of kind) (map view params.now) }
+        ≡ of_monitor database.now id (notation_of notation) (map view params.now) }
 {
     let [name, monitor, requests] = params else {
         return Err(CallFault::Syntax);
@@ -75,7 +75,7 @@ pub(crate) fn read_monitor<'a>(
     }
     match check_database(name, database) {
         Ok(()) => Ok(Call::Monitor(MonitorCall::Start(MonitorStart {
-            kind,
+            notation,
             id: Printable::known(monitor),
             requests,
             since: None,
@@ -109,7 +109,7 @@ pub(crate) fn read_monitor_since<'a>(
     };
     match check_database(name, database) {
         Ok(()) => Ok(Call::Monitor(MonitorCall::Start(MonitorStart {
-            kind: Kind::MonitorCond,
+            notation: Notation::MonitorCond,
             id: Printable::known(monitor),
             requests,
             since: Some(last),

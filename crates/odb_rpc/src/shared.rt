@@ -3,15 +3,18 @@
 ghost use Rattle.std.specs.Prelude.{◌≡◌, ◌++◌, ◌∷◌, [], IfOk};
 ghost use Rattle.serde_json.specs.Data.{Data};
 ghost use Rattle.serde_json.specs.Written.{compact_text};
-ghost use Rattle.odb_request.specs.Represented.Kind.{notation_of};
+ghost use Rattle.odb_request.specs.Represented.Notation.{notation_of};
 ghost use Rattle.odb_request.specs.Request.{update_method};
 ghost use Rattle.odb_rpc.specs.Message.{notification, reply};
 ghost use Rattle.odb_rpc.specs.Represented.Printable.{printable_data};
 ghost use Rattle.odb_rpc.specs.Represented.Shared.{after_result, after_updates};
 
 use crate::printable::Printable;
-use odb_request::Kind;
+use odb_request::Notation;
 use std::alloc::{AllocError, Global};
+
+/// How many bytes stand around a monitor's id before table updates at most.
+pub(crate) const MOST_AROUND: usize = 96;
 
 /// Returns what comes before the result in the reply of a success (RFC 7047, section 4):
 /// `{"error":null,"id":ID,"result":`. The result's compact text comes next, and then
@@ -45,24 +48,25 @@ pub fn after_result() -> &'static [u8]
 }
 
 /// Returns what comes before the table updates in a notification (RFC 7047, section 4.1.6; ovsdb-server(7),
-/// 4.1.14) of the monitor with this id: `{"id":null,"method":METHOD,"params":[ID,`. The updates'
-/// compact text comes next, and then `after_updates`. The method is `update` or, of `monitor_cond`,
-/// `update2`.
+/// 4.1.14) of the monitor with this id, which is printed already, as compact text:
+/// `{"id":null,"method":METHOD,"params":[ID,`. The updates' compact text comes next, and then `after_updates`. The method is
+/// `update` or, of `monitor_cond`, `update2`.
 ///
 /// O(n) for an id of n bytes.
 pub fn before_updates(
     alloc: Global,
-    kind: Kind,
-    monitor: Printable<'_>,
+    notation: Notation,
+    monitor: &[u8],
 ) -> Result<Vec<u8>, AllocError>
-    ensures { IfOk result (λ text. (d : Data) → text.items ++ (compact_text d ++ after_updates)
-        ≡ compact_text (notification (update_method (notation_of kind)) (printable_data monitor.entry ∷ d ∷ []))) }
+    ensures { IfOk result (λ text. (i d : Data) → monitor.now ≡ compact_text i → text.items ++ (compact_text d ++ after_updates)
+        ≡ compact_text (notification (update_method (notation_of notation)) (i ∷ d ∷ []))) }
 {
-    let id_text = monitor.to_vec(alloc)?;
-    let mut text = Vec::from_slice(alloc, b"{\"id\":null,\"method\":\"")?;
-    text.extend_from_slice(kind.update_method().as_bytes())?;
+    let room = monitor.len().saturating_add(MOST_AROUND);
+    let mut text = Vec::with_capacity(alloc, room)?;
+    text.extend_from_slice(b"{\"id\":null,\"method\":\"")?;
+    text.extend_from_slice(notation.update_method().as_bytes())?;
     text.extend_from_slice(b"\",\"params\":[")?;
-    text.extend_from_slice(id_text.as_slice())?;
+    text.extend_from_slice(monitor)?;
     text.push(b',')?;
     Ok(text)
 }

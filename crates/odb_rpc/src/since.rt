@@ -5,12 +5,11 @@ ghost use Rattle.serde_json.specs.Data.{Data};
 ghost use Rattle.serde_json.specs.Written.{compact_text};
 ghost use Rattle.odb_atoms.specs.Represented.Atom.{uuid_of};
 ghost use Rattle.odb_rpc.specs.Message.{reply};
-ghost use Rattle.odb_rpc.specs.Represented.Printable.{printable_data};
 ghost use Rattle.odb_rpc.specs.Represented.Shared.{after_result, after_updates};
 ghost use Rattle.odb_rpc.specs.Represented.Since.{before_found};
 ghost use Rattle.odb_rpc.specs.Since.{since_result, update3};
 
-use crate::printable::Printable;
+use crate::shared::MOST_AROUND;
 use crate::text::with_identifier;
 use std::alloc::{AllocError, Global};
 use uuid::Uuid;
@@ -41,22 +40,19 @@ fn before_found(found: bool) -> &'static [u8]
     b"[false,"
 }
 
-/// Makes what comes before the table updates in an `update3` (ovsdb-server(7), 4.1.16) of the monitor with this id, which
-/// says which commit is the newest: `{"id":null,"method":"update3","params":[ID,"NUMBER",`. The updates' compact text
-/// comes next, and then `after_updates`.
+/// Makes what comes before the table updates in an `update3` (ovsdb-server(7), 4.1.16) of the monitor with this id, which is
+/// printed already, as compact text; it says which commit is the newest: `{"id":null,"method":"update3","params":[ID,"NUMBER",`.
+/// The updates' compact text comes next, and then `after_updates`.
 ///
 /// O(n) for an id of n bytes.
-pub fn before_update3(
-    alloc: Global,
-    monitor: Printable<'_>,
-    number: Uuid,
-) -> Result<Vec<u8>, AllocError>
-    ensures { IfOk result (λ text. (d : Data)
-        → text.items ++ (compact_text d ++ after_updates) ≡ compact_text (update3 (printable_data monitor.entry) (uuid_of number) d)) }
+pub fn before_update3(alloc: Global, monitor: &[u8], number: Uuid) -> Result<Vec<u8>, AllocError>
+    ensures { IfOk result (λ text. (i d : Data) → monitor.now ≡ compact_text i
+        → text.items ++ (compact_text d ++ after_updates) ≡ compact_text (update3 i (uuid_of number) d)) }
 {
-    let id_text = monitor.to_vec(alloc)?;
-    let mut text = Vec::from_slice(alloc, b"{\"id\":null,\"method\":\"update3\",\"params\":[")?;
-    text.extend_from_slice(id_text.as_slice())?;
+    let room = monitor.len().saturating_add(MOST_AROUND);
+    let mut text = Vec::with_capacity(alloc, room)?;
+    text.extend_from_slice(b"{\"id\":null,\"method\":\"update3\",\"params\":[")?;
+    text.extend_from_slice(monitor)?;
     text.push(b',')?;
     text = with_identifier(text, number)?;
     text.push(b',')?;

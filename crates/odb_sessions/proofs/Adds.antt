@@ -46,7 +46,7 @@ module _ (k : Chains) (t : ℕ) (low : t < length k.live) (now : IsNow k) where
   at_mark : (q p : ℕ) → is_at q p (mark_of k t) ≡ true → (q ≡ t) × (p ≡ version k t)
   at_mark q p is =
       let table : nat_eq q t ≡ true = (both_true (nat_eq q t) (nat_eq p (version k t)) is).0 in
-      let place : nat_eq p (version k t) ≡ true = (both_true (nat_eq q t) (nat_eq p (version k t)) is).1 in
+      let newest : nat_eq p (version k t) ≡ true = (both_true (nat_eq q t) (nat_eq p (version k t)) is).1 in
       (grind (arith, nat_tests), grind (arith, nat_tests))
 
   count_new : (q p : ℕ) → count new q p ≡ count k q p + bit (is_at q p (mark_of k t))
@@ -99,7 +99,7 @@ adds_one k new t m low before mark is now =
 
 pub held_live : (old new : Chains) (ms : List Mark) → HoldsContents old new → AreLive old ms → AreLive new ms
 held_live old new [] holds live = tt
-held_live old new (m ∷ ms) holds live = ((count new m.table m.place, holds m.table m.place _ live.0.1), held_live old new ms holds live.1)
+held_live old new (m ∷ ms) holds live = ((count new m.table m.version, holds m.table m.version _ live.0.1), held_live old new ms holds live.1)
 
 pub live_joined : (k : Chains) (xs ys : List Mark) → AreLive k xs → AreLive k ys → AreLive k (xs ++ ys)
 live_joined k [] ys left right = right

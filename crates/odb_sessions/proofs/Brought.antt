@@ -9,7 +9,7 @@ use Rattle.odb_service.specs.Service.{Service}
 use Rattle.odb_service.specs.Session.{brought}
 use Rattle.odb_tables.specs.Database.{table_at}
 use Rattle.odb_sessions.specs.Composed.{AreTheirs, asked_of, told_so}
-use Rattle.odb_sessions.specs.Held.{Held, Watched, table_marks, view_of}
+use Rattle.odb_sessions.specs.Marked.{MarkedMonitor, Watched, table_marks, view_of}
 use Rattle.odb_sessions.specs.Moved.{all_now, brought_to, told_now}
 use Rattle.odb_cond.specs.Filter.{Filter}
 use Rattle.odb_sessions.proofs.Loops.{mapped_twice}
@@ -40,14 +40,14 @@ pub brought_same : (a b : Chains) (w : Watched) → b.db ≡ a.db → b.versions
 brought_same a b w db versions = λ i. record {
   request = w.request;
   told = w.request.filter;
-  mark = (let m : Mark = record { table = w.mark.table; place = unwrap_or (slice_get (versions i) w.mark.table) 0; content = table_at (db i) w.mark.table } in m);
+  mark = (let m : Mark = record { table = w.mark.table; version = unwrap_or (slice_get (versions i) w.mark.table) 0; content = table_at (db i) w.mark.table } in m);
 }
 
 pub brought_marks : (k : Chains) (ws : List Watched) → table_marks (map (brought_to k) ws) ≡ all_now k (table_marks ws)
 brought_marks k [] = refl
 brought_marks k (w ∷ ws) = ap (λ ms. mark_of k w.mark.table ∷ ms) (brought_marks k ws)
 
-abbrev held : Data → Notation → Option Uuid → List Watched → Held
+abbrev held : Data → Notation → Option Uuid → List Watched → MarkedMonitor
 held i n since ws = record { id = i; notation = n; tables = ws; since = since }
 
 pub brought_asked : (k : Chains) (ws : List Watched) → asked_of (map (brought_to k) ws) ≡ asked_of ws
@@ -71,5 +71,5 @@ pub told_same : (a b : Chains) (f : Filter) (w : Watched) → b.db ≡ a.db → 
 told_same a b f w db versions = λ i. record {
   request = w.request;
   told = f;
-  mark = (let m : Mark = record { table = w.mark.table; place = unwrap_or (slice_get (versions i) w.mark.table) 0; content = table_at (db i) w.mark.table } in m);
+  mark = (let m : Mark = record { table = w.mark.table; version = unwrap_or (slice_get (versions i) w.mark.table) 0; content = table_at (db i) w.mark.table } in m);
 }

@@ -7,7 +7,7 @@ use Rattle.odb_atoms.specs.FinMap as finite
 use Rattle.odb_chain.specs.Chains.{Chains, IsNow, Mark, count, standing, version}
 use Rattle.odb_tables.specs.Database.{table_at}
 use Rattle.odb_sessions.specs.Carried.{Carries, IsReady}
-use Rattle.odb_sessions.specs.Held.{Held, Kept, Sessions, marks_in, marks_of}
+use Rattle.odb_sessions.specs.Marked.{MarkedMonitor, MarkedSession, Sessions, marks_in, marks_of}
 use Rattle.odb_sessions.specs.Moved.{Moves, all_now}
 use Rattle.odb_sessions.specs.Tied.{Frees, IsTied, KeepsContents, uses}
 use Rattle.odb_sessions.proofs.Adds.{live_joined, stands_itself}
@@ -193,39 +193,39 @@ module _ (a b c : Chains) (xs ys zs : List Mark) (now : IsNow a) (f : Carries a 
 
 -- ---- among all sessions
 
-pub tied_carried : (k new : Chains) (m : Sessions) (s : ℕ) (x y : Kept) → IsTied k m → finite.get m s ≡ Some x → Carries k new (marks_of x) (marks_of y) → KeepsWatch x y → IsTied new (finite.insert m s y)
+pub tied_carried : (k new : Chains) (m : Sessions) (s : ℕ) (x y : MarkedSession) → IsTied k m → finite.get m s ≡ Some x → Carries k new (marks_of x) (marks_of y) → KeepsWatch x y → IsTied new (finite.insert m s y)
 tied_carried k new m s x y h there f same = tied_moved k new m s x y h there (λ t p. sym (f.2 t p)) f.4 f.5 f.6 same
 
-pub ready_at : (k : Chains) (m : Sessions) (s : ℕ) (x : Kept) → IsTied k m → finite.get m s ≡ Some x → IsReady k (marks_of x)
+pub ready_at : (k : Chains) (m : Sessions) (s : ℕ) (x : MarkedSession) → IsTied k m → finite.get m s ≡ Some x → IsReady k (marks_of x)
 ready_at k m s x h there = (h.0, has_all k m s x h there)
 
 -- ---- at one monitor
 
-abbrev pub flat : List Held → List Mark
+abbrev pub flat : List MarkedMonitor → List Mark
 flat xs = flat_map marks_in xs
 
-parted : (xs : List Held) (n : ℕ) (d : Held) → n < length xs → flat xs ≡ flat (take n xs) ++ (marks_in (slice_index_or xs n d) ++ flat (drop (suc n) xs))
+parted : (xs : List MarkedMonitor) (n : ℕ) (d : MarkedMonitor) → n < length xs → flat xs ≡ flat (take n xs) ++ (marks_in (slice_index_or xs n d) ++ flat (drop (suc n) xs))
 parted [] n d low = absurd (omega (arith, low))
 parted (x ∷ xs) zero d low = refl
 parted (x ∷ xs) (suc n) d low =
     ap (λ ms. marks_in x ++ ms) (parted xs n d (omega (arith, low)))
     ∙ sym (append_assoc (marks_in x) (flat (take n xs)) (marks_in (slice_index_or xs n d) ++ flat (drop (suc n) xs)))
 
-parted_set : (xs : List Held) (n : ℕ) (y : Held) → n < length xs → flat (slice_set xs n y) ≡ flat (take n xs) ++ (marks_in y ++ flat (drop (suc n) xs))
+parted_set : (xs : List MarkedMonitor) (n : ℕ) (y : MarkedMonitor) → n < length xs → flat (slice_set xs n y) ≡ flat (take n xs) ++ (marks_in y ++ flat (drop (suc n) xs))
 parted_set [] n y low = absurd (omega (arith, low))
 parted_set (x ∷ xs) zero y low = refl
 parted_set (x ∷ xs) (suc n) y low =
     ap (λ ms. marks_in x ++ ms) (parted_set xs n y (omega (arith, low)))
     ∙ sym (append_assoc (marks_in x) (flat (take n xs)) (marks_in y ++ flat (drop (suc n) xs)))
 
-parted_gone : (xs : List Held) (n : ℕ) → n < length xs → flat (remove xs n) ≡ flat (take n xs) ++ flat (drop (suc n) xs)
+parted_gone : (xs : List MarkedMonitor) (n : ℕ) → n < length xs → flat (remove xs n) ≡ flat (take n xs) ++ flat (drop (suc n) xs)
 parted_gone [] n low = absurd (omega (arith, low))
 parted_gone (x ∷ xs) zero low = refl
 parted_gone (x ∷ xs) (suc n) low =
     ap (λ ms. marks_in x ++ ms) (parted_gone xs n (omega (arith, low)))
     ∙ sym (append_assoc (marks_in x) (flat (take n xs)) (flat (drop (suc n) xs)))
 
-module _ (k : Chains) (xs : List Held) (n : ℕ) (x : Held) (low : n < length xs) (at : x ≡ slice_index_or xs n x) (h : IsReady k (flat xs)) where
+module _ (k : Chains) (xs : List MarkedMonitor) (n : ℕ) (x : MarkedMonitor) (low : n < length xs) (at : x ≡ slice_index_or xs n x) (h : IsReady k (flat xs)) where
   abbrev before : List Mark
   before = flat (take n xs)
 
@@ -233,7 +233,7 @@ module _ (k : Chains) (xs : List Held) (n : ℕ) (x : Held) (low : n < length xs
   after = flat (drop (suc n) xs)
 
   parts : flat xs ≡ before ++ (marks_in x ++ after)
-  parts = parted xs n x low ∙ ap (λ (y : Held). before ++ (marks_in y ++ after)) (sym at)
+  parts = parted xs n x low ∙ ap (λ (y : MarkedMonitor). before ++ (marks_in y ++ after)) (sym at)
 
   ready_parts : IsReady k (before ++ (marks_in x ++ after))
   ready_parts = subst (IsReady k) parts h
@@ -241,12 +241,12 @@ module _ (k : Chains) (xs : List Held) (n : ℕ) (x : Held) (low : n < length xs
   pub ready_one : IsReady k (marks_in x)
   ready_one = ready_part k before (marks_in x) after ready_parts
 
-  pub carried_one : (new : Chains) (y : Held) → Carries k new (marks_in x) (marks_in y) → Carries k new (flat xs) (flat (slice_set xs n y))
+  pub carried_one : (new : Chains) (y : MarkedMonitor) → Carries k new (marks_in x) (marks_in y) → Carries k new (flat xs) (flat (slice_set xs n y))
   carried_one new y f =
       subst (λ ms. Carries k new ms (flat (slice_set xs n y))) (sym parts)
       (subst (Carries k new (before ++ (marks_in x ++ after))) (sym (parted_set xs n y low)) (carried_among k new before after (marks_in x) (marks_in y) ready_parts f))
 
-  pub moved_one : (new : Chains) (y : Held) → Moves k new (marks_in x) → marks_in y ≡ all_now k (marks_in x) → Carries k new (flat xs) (flat (slice_set xs n y))
+  pub moved_one : (new : Chains) (y : MarkedMonitor) → Moves k new (marks_in x) → marks_in y ≡ all_now k (marks_in x) → Carries k new (flat xs) (flat (slice_set xs n y))
   moved_one new y f marks = carried_one new y (subst (Carries k new (marks_in x)) (sym marks) (moved_carried k new (marks_in x) ready_one f))
 
   pub freed_one : (new : Chains) → Frees k new (marks_in x) → Carries k new (flat xs) (flat (remove xs n))
@@ -255,18 +255,18 @@ module _ (k : Chains) (xs : List Held) (n : ℕ) (x : Held) (low : n < length xs
       (subst (Carries k new (before ++ (marks_in x ++ after))) (sym (parted_gone xs n low)) (carried_among k new before after (marks_in x) [] ready_parts (freed_carried k new (marks_in x) h.0 f)))
 
 -- what a monitor has becomes another thing, its marks don't
-pub same_marks : (xs : List Held) (n : ℕ) (x y : Held) → n < length xs → x ≡ slice_index_or xs n x → marks_in y ≡ marks_in x → flat (slice_set xs n y) ≡ flat xs
+pub same_marks : (xs : List MarkedMonitor) (n : ℕ) (x y : MarkedMonitor) → n < length xs → x ≡ slice_index_or xs n x → marks_in y ≡ marks_in x → flat (slice_set xs n y) ≡ flat xs
 same_marks xs n x y low at same =
     parted_set xs n y low
     ∙ ap (λ ms. flat (take n xs) ++ (ms ++ flat (drop (suc n) xs))) (same ∙ ap marks_in at)
     ∙ sym (parted xs n x low)
 
 -- a monitor comes to the end
-pub begun_carried : (k new : Chains) (x y : Held) (xs : List Held) → IsReady k (marks_in x ++ flat xs) → Moves k new (marks_in x) → marks_in y ≡ all_now k (marks_in x) → Carries k new (marks_in x ++ flat xs) (flat (xs ++ y ∷ []))
+pub begun_carried : (k new : Chains) (x y : MarkedMonitor) (xs : List MarkedMonitor) → IsReady k (marks_in x ++ flat xs) → Moves k new (marks_in x) → marks_in y ≡ all_now k (marks_in x) → Carries k new (marks_in x ++ flat xs) (flat (xs ++ y ∷ []))
 begun_carried k new x y xs h f marks =
     let one : Carries k new (marks_in x) (marks_in y) = subst (Carries k new (marks_in x)) (sym marks) (moved_carried k new (marks_in x) (ready_part k [] (marks_in x) (flat xs) h) f) in
     subst (Carries k new (marks_in x ++ flat xs)) (sym (at_end xs)) (carried_turned k new (marks_in x ++ flat xs) (marks_in y) (flat xs) (carried_among k new [] (flat xs) (marks_in x) (marks_in y) h one))
   where
-    at_end : (zs : List Held) → flat (zs ++ y ∷ []) ≡ flat zs ++ marks_in y
+    at_end : (zs : List MarkedMonitor) → flat (zs ++ y ∷ []) ≡ flat zs ++ marks_in y
     at_end [] = append-nil (marks_in y)
     at_end (z ∷ zs) = ap (λ ms. marks_in z ++ ms) (at_end zs) ∙ sym (append_assoc (marks_in z) (flat zs) (marks_in y))

@@ -1,4 +1,4 @@
--- How many marks are counted at all places: one more where a mark is made, one less where one is released, and as many where one moves.
+-- How many marks are counted at all versions: one more where a mark is made, one less where one is released, and as many where one moves.
 use Rattle.std.proofs.Common.{◌≡◌, ℕ, zero, suc, ◌+◌, ◌-◌, ◌<◌, ◌≤◌, arith, Bool, true, false, cond, nat_le, List, [], ◌∷◌, length, map, slice_get, slice_set, unwrap_or, Option, Some, None, option_and_then, refl, sym, ap, subst, ◌∙◌}
 use Rattle.std.proofs.lemmas.Bool.Decides.{nat_tests}
 use Rattle.std.proofs.lemmas.Option.{none-some}
@@ -43,7 +43,7 @@ taken_out l p =
     ∙ ap (λ o. counted_at (finite.remove l p) + slot own o) (get-entries l p)
     ∙ total-without own p l.entries l.sorted
 
--- with one mark less at a place
+-- with one mark less at a version
 one_out : (l : Live) (p : ℕ) (o : Option Standing) → finite.get l p ≡ o
     → (counted_at (with_standing l p (option_and_then one_less o)) ≤ counted_at l) × (0 < marks_of o → counted_at (with_standing l p (option_and_then one_less o)) + 1 ≡ counted_at l)
 one_out l p None is =
@@ -125,16 +125,16 @@ stands_inside [] t p x there = absurd (none-some x (sym (get-empty nat_cmp p) �
 stands_inside (l ∷ ls) zero p x there = omega arith
 stands_inside (l ∷ ls) (suc t) p x there = let low : t < length ls = stands_inside ls t p x there in omega (arith, low)
 
-pub room_kept : (k new : Chains) (m : Mark) → HasAll k (m ∷ []) → new ≡ released m.table m.place (marked m.table k) → KeepsRoom k new
+pub room_kept : (k new : Chains) (m : Mark) → HasAll k (m ∷ []) → new ≡ released m.table m.version (marked m.table k) → KeepsRoom k new
 room_kept k new m has is =
     let t = m.table in
     let k1 : Chains = marked t k in
-    let low : t < length k.live = stands_inside k.live t m.place _ has.0.0.1 in
+    let low : t < length k.live = stands_inside k.live t m.version _ has.0.0.1 in
     let same : length k1.live ≡ length k.live = length-set k.live t _ in
     let low1 : t < length k1.live = omega (arith, low, same) in
-    let some : 1 ≤ uses t m.place (m ∷ []) = used_once m [] in
-    let there : uses t m.place (m ∷ []) ≤ count k t m.place = has.1 t m.place in
-    let more : count k t m.place + bit (is_at t m.place (let n : Mark = record { table = t; place = version k t; content = table_at k.db t } in n)) ≡ count k1 t m.place = counted k t low t m.place in
+    let some : 1 ≤ uses t m.version (m ∷ []) = used_once m [] in
+    let there : uses t m.version (m ∷ []) ≤ count k t m.version = has.1 t m.version in
+    let more : count k t m.version + bit (is_at t m.version (let n : Mark = record { table = t; version = version k t; content = table_at k.db t } in n)) ≡ count k1 t m.version = counted k t low t m.version in
     let up : counted_in k1.live ≡ counted_in k.live + 1 = one_counted k t low in
-    let down : counted_in (released t m.place k1).live + 1 ≡ counted_in k1.live = one_released k1 t m.place low1 (omega (arith, some, there, more)) in
+    let down : counted_in (released t m.version k1).live + 1 ≡ counted_in k1.live = one_released k1 t m.version low1 (omega (arith, some, there, more)) in
     subst (λ (c : Chains). KeepsRoom k c) (sym is) (length-set k1.live t _ ∙ same, omega (arith, up, down))

@@ -1,9 +1,9 @@
 -- What can be found of earlier contents, after one commit more.
 use Rattle.std.proofs.Common.{◌≡◌, ◌-◌, drop, take, List, [], ◌∷◌, refl, ap, ◌∙◌}
-use Rattle.odb_recent.specs.Kept.{kept_of}
+use Rattle.odb_recent.specs.Findable.{findable}
 use Rattle.odb_recent.specs.Recent.{Recent, kept_undo, noted}
 use Rattle.odb_recent.specs.Undo.{Undo}
-use Rattle.odb_recent.proofs.Undoing.{contents_are_kept}
+use Rattle.odb_recent.proofs.Undoing.{contents_are_findable}
 use Rattle.odb_service.specs.Session.{Earlier}
 use Rattle.odb_sessions.specs.Book.{Book, Sessions, book_with}
 use Rattle.odb_sessions.specs.Committed.{changed_with}
@@ -12,15 +12,15 @@ use Rattle.odb_tables.specs.Database.{Db}
 use Rattle.odb_tables.specs.Installing.{IsChangeOf}
 
 -- the content of now comes first
-pub now_first : (db : Db) (us : List Undo) → kept_of db us ≡ db ∷ drop 1 (kept_of db us)
+pub now_first : (db : Db) (us : List Undo) → findable db us ≡ db ∷ drop 1 (findable db us)
 now_first db [] = refl
 now_first db (u ∷ us) = refl
 
 module _ (db : Db) (cs : List Changes) (r : Recent) (is : IsChangeOf db cs) (u : Undo) (kept : u ≡ kept_undo r.most cs) where
-  contents_after : drop 1 (kept_of (all_changed_by db cs) (noted u r).undos) ≡ take (r.most - 1) (db ∷ drop 1 (kept_of db r.undos))
+  contents_after : drop 1 (findable (all_changed_by db cs) (noted u r).undos) ≡ take (r.most - 1) (db ∷ drop 1 (findable db r.undos))
   contents_after =
-      ap (λ (v : Undo). drop 1 (kept_of (all_changed_by db cs) (noted v r).undos)) kept
-      ∙ ap (drop 1) (contents_are_kept db cs r is)
+      ap (λ (v : Undo). drop 1 (findable (all_changed_by db cs) (noted v r).undos)) kept
+      ∙ ap (drop 1) (contents_are_findable db cs r is)
       ∙ ap (take (r.most - 1)) (now_first db r.undos)
 
   -- the book after the commit

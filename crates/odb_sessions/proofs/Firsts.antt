@@ -10,7 +10,7 @@ use Rattle.odb_service.specs.Server.{served_by}
 use Rattle.odb_service.specs.Service.{Service}
 use Rattle.odb_service.specs.Session.{Monitor, at_first, brought, drop_first, has_id}
 use Rattle.odb_sessions.specs.Asked.{is_same}
-use Rattle.odb_sessions.specs.Held.{Held, monitor_of}
+use Rattle.odb_sessions.specs.Marked.{MarkedMonitor, monitor_of}
 use Rattle.odb_sessions.specs.Carried.{first_brought}
 use Rattle.odb_sessions.proofs.Replays.{taken_found, taken_nowhere}
 use Rattle.odb_tables.specs.Database.{Db}
@@ -47,15 +47,15 @@ module _ {A B : Type 0} (g : A → B) (p : B → Bool) (f : B → B) where
       by true is e = absurd (none-some (position_or_len (λ x. p (g x)) xs) (sym e))
       by false is e = nowhere_at xs (grind (arith, nat_tests))
 
-module _ (s : Schema) (i : Data) (xs : List Held) where
+module _ (s : Schema) (i : Data) (xs : List MarkedMonitor) where
   abbrev pub IsFirst : ℕ → Type 0
-  IsFirst k = position (λ (z : Held). is_same i z.id) xs ≡ Some k
+  IsFirst k = position (λ (z : MarkedMonitor). is_same i z.id) xs ≡ Some k
 
   abbrev pub IsNowhere : Type 0
-  IsNowhere = position (λ (z : Held). is_same i z.id) xs ≡ None
+  IsNowhere = position (λ (z : MarkedMonitor). is_same i z.id) xs ≡ None
 
-  pub seen_found : (f : Monitor → Monitor) (k : ℕ) (x y : Held) → IsFirst k → x ≡ slice_index_or xs k x → monitor_of y ≡ f (monitor_of x) → map monitor_of (slice_set xs k y) ≡ at_first (has_id (served_by s) i) f (map monitor_of xs)
-  seen_found f k x y found at own = changed_found monitor_of (has_id (served_by s) i) f y x xs k found (own ∙ ap (λ (z : Held). f (monitor_of z)) at)
+  pub seen_found : (f : Monitor → Monitor) (k : ℕ) (x y : MarkedMonitor) → IsFirst k → x ≡ slice_index_or xs k x → monitor_of y ≡ f (monitor_of x) → map monitor_of (slice_set xs k y) ≡ at_first (has_id (served_by s) i) f (map monitor_of xs)
+  seen_found f k x y found at own = changed_found monitor_of (has_id (served_by s) i) f y x xs k found (own ∙ ap (λ (z : MarkedMonitor). f (monitor_of z)) at)
 
   pub seen_nowhere : (f : Monitor → Monitor) → IsNowhere → map monitor_of xs ≡ at_first (has_id (served_by s) i) f (map monitor_of xs)
   seen_nowhere f none = changed_nowhere monitor_of (has_id (served_by s) i) f xs none
@@ -110,15 +110,15 @@ module _ (h : Service) (db : Db) where
       by true less = let few : k < n = grind (arith, nat_tests) in no_more_brought ms i n (omega (arith, is, few, long)) (omega (arith, is, few))
       by false less = let few : n ≤ k = grind (arith, nat_tests) in ap (λ m. first_brought h db m ms) (let same : i ≡ n = omega (arith, is, few) in same)
 
-pub set_seen : (xs : List Held) (n : ℕ) (y : Held) → map monitor_of (slice_set xs n y) ≡ slice_set (map monitor_of xs) n (monitor_of y)
+pub set_seen : (xs : List MarkedMonitor) (n : ℕ) (y : MarkedMonitor) → map monitor_of (slice_set xs n y) ≡ slice_set (map monitor_of xs) n (monitor_of y)
 set_seen [] n y = refl
 set_seen (x ∷ xs) zero y = refl
 set_seen (x ∷ xs) (suc n) y = ap (λ ms. monitor_of x ∷ ms) (set_seen xs n y)
 
-pub at_seen : (xs : List Held) (n : ℕ) (x : Held) → x ≡ slice_index_or xs n x → monitor_of x ≡ slice_index_or (map monitor_of xs) n (monitor_of x)
+pub at_seen : (xs : List MarkedMonitor) (n : ℕ) (x : MarkedMonitor) → x ≡ slice_index_or xs n x → monitor_of x ≡ slice_index_or (map monitor_of xs) n (monitor_of x)
 at_seen xs n x at = ap monitor_of at ∙ by xs n
   where
-    by : (xs : List Held) (n : ℕ) → monitor_of (slice_index_or xs n x) ≡ slice_index_or (map monitor_of xs) n (monitor_of x)
+    by : (xs : List MarkedMonitor) (n : ℕ) → monitor_of (slice_index_or xs n x) ≡ slice_index_or (map monitor_of xs) n (monitor_of x)
     by [] n = refl
     by (y ∷ xs) zero = refl
     by (y ∷ xs) (suc n) = by xs n

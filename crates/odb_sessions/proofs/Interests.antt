@@ -11,7 +11,7 @@ use Rattle.odb_cond.specs.Filter.{Filter}
 use Rattle.odb_interest.specs.Represented.Lists.{Asks, with_filter}
 use Rattle.std.proofs.lemmas.List.{length-append, length-map, nil_from_length}
 use Rattle.std.proofs.lemmas.Option.{same_Some}
-use Rattle.odb_sessions.specs.Held.{Held, Kept, Watched, monitor_of, seen}
+use Rattle.odb_sessions.specs.Marked.{MarkedMonitor, MarkedSession, Watched, monitor_of, seen}
 use Rattle.odb_sessions.specs.Owed.{ForgetsOwed, IsPut, KeepsOthers, KeepsResting, filter_asked, filters_asked, interest_if, interest_in, interest_of, table_of}
 
 -- what is said of a session leaves the others
@@ -32,14 +32,14 @@ kept_tables : (ws : List Watched) → map filter_asked ws ≡ interest_in (map (
 kept_tables [] = refl
 kept_tables (w ∷ ws) = ap (λ fs. filter_asked w ∷ fs) (kept_tables ws)
 
-kept_monitors : (xs : List Held) → flat_map filters_asked xs ≡ flat_map (λ m. interest_in m.watch.requests) (map monitor_of xs)
+kept_monitors : (xs : List MarkedMonitor) → flat_map filters_asked xs ≡ flat_map (λ m. interest_in m.watch.requests) (map monitor_of xs)
 kept_monitors [] = refl
 kept_monitors (x ∷ xs) = λ i. kept_tables x.tables i ++ kept_monitors xs i
 
-pub kept_asks : (x : Kept) → flat_map filters_asked x.monitors ≡ interest_of (seen x)
+pub kept_asks : (x : MarkedSession) → flat_map filters_asked x.monitors ≡ interest_of (seen x)
 kept_asks x = kept_monitors x.monitors
 
-pub nothing_asked : (o : Option Kept) → o ≡ None → [] ≡ interest_if (option_map seen o)
+pub nothing_asked : (o : Option MarkedSession) → o ≡ None → [] ≡ interest_if (option_map seen o)
 nothing_asked o is = ap (λ p. interest_if (option_map seen p)) (sym is)
 
 -- one that is in the set is forgotten: who isn't in it is another one

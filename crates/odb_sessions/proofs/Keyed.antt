@@ -10,7 +10,7 @@ use Rattle.slab.specs.Slab.{Slab, Updates, get, with_value}
 use Rattle.slab.proofs.SlabLemmas.{Updates-with_value}
 use Rattle.odb_atoms.specs.FinMap as finite
 use Rattle.odb_atoms.proofs.FinMaps.{get-map_entries}
-use Rattle.odb_sessions.specs.Held.{Kept, Sessions}
+use Rattle.odb_sessions.specs.Marked.{MarkedSession, Sessions}
 use Rattle.odb_sessions.specs.Represented.Keyed.{Agree, IsKeyed, key_of, session_under, sessions_under}
 use Rattle.odb_service.proofs.SessionMaps.{get-empty, get-insert, get-remove, key-itself, same_key, same_map}
 
@@ -18,19 +18,19 @@ get-from_entries : (es : List (ℕ × ℕ)) (q : ℕ) → finite.get (finite.fro
 get-from_entries [] q = get-empty q
 get-from_entries (e ∷ es) q = get-insert (finite.from_entries es) e.0 e.1 q ∙ ap (cond (eq_by_cmp nat_cmp q e.0) (Some e.1)) (get-from_entries es q)
 
-pub get-under : (index : List (ℕ × ℕ)) (slots : List (Option Kept)) (q : ℕ) → finite.get (sessions_under index slots) q ≡ option_and_then (session_under slots) (key_of index q)
+pub get-under : (index : List (ℕ × ℕ)) (slots : List (Option MarkedSession)) (q : ℕ) → finite.get (sessions_under index slots) q ≡ option_and_then (session_under slots) (key_of index q)
 get-under index slots q =
     get-map_entries nat_cmp_total nat_cmp-IsAntisymmetric (λ number key. session_under slots key) (finite.from_entries index) q
     ∙ ap (option_and_then (session_under slots)) (get-from_entries index q)
 
 -- where the number has this key, what lies under it is what the number has
-pub get-at : (index : List (ℕ × ℕ)) (slots : List (Option Kept)) (q k : ℕ) → key_of index q ≡ Some k → finite.get (sessions_under index slots) q ≡ session_under slots k
+pub get-at : (index : List (ℕ × ℕ)) (slots : List (Option MarkedSession)) (q k : ℕ) → key_of index q ≡ Some k → finite.get (sessions_under index slots) q ≡ session_under slots k
 get-at index slots q k at = get-under index slots q ∙ ap (option_and_then (session_under slots)) at
 
-pub get-nowhere : (index : List (ℕ × ℕ)) (slots : List (Option Kept)) (q : ℕ) → key_of index q ≡ None → finite.get (sessions_under index slots) q ≡ None
+pub get-nowhere : (index : List (ℕ × ℕ)) (slots : List (Option MarkedSession)) (q : ℕ) → key_of index q ≡ None → finite.get (sessions_under index slots) q ≡ None
 get-nowhere index slots q none = get-under index slots q ∙ ap (option_and_then (session_under slots)) none
 
-pub none_under : (index : List (ℕ × ℕ)) (slots : List (Option Kept)) → index ≡ [] → sessions_under index slots ≡ finite.empty
+pub none_under : (index : List (ℕ × ℕ)) (slots : List (Option MarkedSession)) → index ≡ [] → sessions_under index slots ≡ finite.empty
 none_under index slots none = same_map _ _ (λ q. get-nowhere index slots q (ap (λ es. key_of es q) none) ∙ sym (get-empty q))
 
 pub apart_at : (s q : ℕ) → q ≢ s → eq_by_cmp nat_cmp s q ≡ false
@@ -41,10 +41,10 @@ apart_at s q differs = by (eq_by_cmp nat_cmp s q) refl
     by false is = is
 
 module _ (m : Sessions) (s : ℕ) where
-  get-inserted : (x : Kept) (q : ℕ) → q ≡ s → finite.get (finite.insert m s x) q ≡ Some x
+  get-inserted : (x : MarkedSession) (q : ℕ) → q ≡ s → finite.get (finite.insert m s x) q ≡ Some x
   get-inserted x q same = get-insert m s x q ∙ ap (λ b. cond b (Some x) (finite.get m q)) (ap (λ t. eq_by_cmp nat_cmp t s) same ∙ key-itself s)
 
-  get-beside : (x : Kept) (q : ℕ) → q ≢ s → finite.get (finite.insert m s x) q ≡ finite.get m q
+  get-beside : (x : MarkedSession) (q : ℕ) → q ≢ s → finite.get (finite.insert m s x) q ≡ finite.get m q
   get-beside x q differs = get-insert m s x q ∙ ap (λ b. cond b (Some x) (finite.get m q)) (apart_at q s (λ e. differs (sym e)))
 
   get-removed : (q : ℕ) → q ≡ s → finite.get (finite.remove m s) q ≡ None
@@ -55,7 +55,7 @@ module _ (m : Sessions) (s : ℕ) where
 
 -- ---- what the map becomes
 
-module _ (index changed : List (ℕ × ℕ)) (slots new : List (Option Kept)) (s k : ℕ) (elsewhere : (q : ℕ) → q ≢ s → key_of changed q ≡ key_of index q) (others : (j : ℕ) → j ≢ k → session_under new j ≡ session_under slots j) (used : (q j : ℕ) → q ≢ s → key_of index q ≡ Some j → j ≢ k) where
+module _ (index changed : List (ℕ × ℕ)) (slots new : List (Option MarkedSession)) (s k : ℕ) (elsewhere : (q : ℕ) → q ≢ s → key_of changed q ≡ key_of index q) (others : (j : ℕ) → j ≢ k → session_under new j ≡ session_under slots j) (used : (q j : ℕ) → q ≢ s → key_of index q ≡ Some j → j ≢ k) where
   stays : (q : ℕ) → q ≢ s → finite.get (sessions_under changed new) q ≡ finite.get (sessions_under index slots) q
   stays q differs = get-under changed new q ∙ ap (option_and_then (session_under new)) (elsewhere q differs) ∙ by (key_of index q) refl ∙ sym (get-under index slots q)
     where
@@ -63,7 +63,7 @@ module _ (index changed : List (ℕ × ℕ)) (slots new : List (Option Kept)) (s
       by None at = refl
       by (Some j) at = others j (used q j differs at)
 
-  pub put_in : (x : Kept) → key_of changed s ≡ Some k → session_under new k ≡ Some x → sessions_under changed new ≡ finite.insert (sessions_under index slots) s x
+  pub put_in : (x : MarkedSession) → key_of changed s ≡ Some k → session_under new k ≡ Some x → sessions_under changed new ≡ finite.insert (sessions_under index slots) s x
   put_in x here lies =
       same_map _ _
       (λ q. elim (cases_eq q s) [
@@ -90,18 +90,18 @@ nothing_removed m s none =
 
 -- ---- that they belong together
 
-nothing : (o : Option Kept) → o ≡ None → IsSome o → ⊥
+nothing : (o : Option MarkedSession) → o ≡ None → IsSome o → ⊥
 nothing o none is = true≢false (sym (subst IsSome none is))
 
 -- a number with no session has no key
-pub without_key : (index : List (ℕ × ℕ)) (slots : List (Option Kept)) (s : ℕ) → IsKeyed index slots → finite.get (sessions_under index slots) s ≡ None → key_of index s ≡ None
+pub without_key : (index : List (ℕ × ℕ)) (slots : List (Option MarkedSession)) (s : ℕ) → IsKeyed index slots → finite.get (sessions_under index slots) s ≡ None → key_of index s ≡ None
 without_key index slots s h shut = by (key_of index s) refl
   where
     by : (o : Option ℕ) → key_of index s ≡ o → key_of index s ≡ None
     by None is = is
     by (Some k) is = absurd (nothing (session_under slots k) (sym (get-at index slots s k is) ∙ shut) (h.0 s k is))
 
-module _ (key_at : ℕ → Option ℕ) (lies new : ℕ → Option Kept) (s k : ℕ) (others : (j : ℕ) → j ≢ k → new j ≡ lies j) where
+module _ (key_at : ℕ → Option ℕ) (lies new : ℕ → Option MarkedSession) (s k : ℕ) (others : (j : ℕ) → j ≢ k → new j ≡ lies j) where
   agree_written : key_at s ≡ Some k → IsSome (new k) → Agree key_at lies → Agree key_at new
   agree_written there has h = (
     λ q j at. elim (cases_eq j k) [
@@ -171,7 +171,7 @@ module _ (old new : BTreeMap ℕ ℕ) (s : ℕ) (o : Option ℕ) (changed : Upda
   elsewhere : (q : ℕ) → q ≢ s → key_of new.entries q ≡ key_of old.entries q
   elsewhere q differs = changed.2 q (apart_at s q differs)
 
-module _ (index : List (ℕ × ℕ)) (slab : Slab Kept) (s k : ℕ) (x : Kept) (there : key_of index s ≡ Some k) (h : IsKeyed index slab.slots) where
+module _ (index : List (ℕ × ℕ)) (slab : Slab MarkedSession) (s k : ℕ) (x : MarkedSession) (there : key_of index s ≡ Some k) (h : IsKeyed index slab.slots) where
   written : Updates slab (with_value slab k x) k (Some x)
   written = Updates-with_value slab k x (h.0 s k there)
 
@@ -183,7 +183,7 @@ module _ (index : List (ℕ × ℕ)) (slab : Slab Kept) (s k : ℕ) (x : Kept) (
   pub keyed_written : IsKeyed index (with_value slab k x).slots
   keyed_written = agree_written (key_of index) (session_under slab.slots) (session_under (with_value slab k x).slots) s k written.others there (subst IsSome (sym written.changed) refl) h
 
-module _ (old new : BTreeMap ℕ ℕ) (slab reserved after : Slab Kept) (s k : ℕ) (x : Kept) (kept : reserved.slots ≡ slab.slots) (shut : key_of old.entries s ≡ None) (vacant : get reserved k ≡ None) (changed : UpdatesBy nat_cmp (nat_cmp s) old new (Some k)) (put : Updates reserved after k (Some x)) (h : IsKeyed old.entries slab.slots) where
+module _ (old new : BTreeMap ℕ ℕ) (slab reserved after : Slab MarkedSession) (s k : ℕ) (x : MarkedSession) (kept : reserved.slots ≡ slab.slots) (shut : key_of old.entries s ≡ None) (vacant : get reserved k ≡ None) (changed : UpdatesBy nat_cmp (nat_cmp s) old new (Some k)) (put : Updates reserved after k (Some x)) (h : IsKeyed old.entries slab.slots) where
   others_put : (j : ℕ) → j ≢ k → session_under after.slots j ≡ session_under slab.slots j
   others_put j differs = put.others j differs ∙ ap (λ ss. session_under ss j) kept
 
@@ -200,7 +200,7 @@ module _ (old new : BTreeMap ℕ ℕ) (slab reserved after : Slab Kept) (s k : �
       agree_inserted (key_of old.entries) (session_under slab.slots) (session_under after.slots) s k others_put (key_of new.entries) (elsewhere old new s (Some k) changed)
       shut vacant_before changed.1 (subst IsSome (sym put.changed) refl) h
 
-module _ (old new : BTreeMap ℕ ℕ) (slab after : Slab Kept) (s k : ℕ) (there : key_of old.entries s ≡ Some k) (changed : UpdatesBy nat_cmp (nat_cmp s) old new None) (taken : Updates slab after k None) (h : IsKeyed old.entries slab.slots) where
+module _ (old new : BTreeMap ℕ ℕ) (slab after : Slab MarkedSession) (s k : ℕ) (there : key_of old.entries s ≡ Some k) (changed : UpdatesBy nat_cmp (nat_cmp s) old new None) (taken : Updates slab after k None) (h : IsKeyed old.entries slab.slots) where
   pub view_removed : sessions_under new.entries after.slots ≡ finite.remove (sessions_under old.entries slab.slots) s
   view_removed =
       taken_out old.entries new.entries slab.slots after.slots s k (elsewhere old new s None changed) taken.others

@@ -8,7 +8,7 @@ use Rattle.odb_atoms.proofs.Lists.{Member}
 use Rattle.odb_atoms.specs.FinMap.{entries_of}
 use Rattle.odb_chain.specs.Chains.{Chains, Mark}
 use Rattle.odb_chain.specs.Marks.{AreAllMarks}
-use Rattle.odb_sessions.specs.Held.{Kept, Sessions, marks_of}
+use Rattle.odb_sessions.specs.Marked.{MarkedSession, Sessions, marks_of}
 use Rattle.odb_sessions.specs.Tied.{AreLive, IsTied, all_marks, entry_marks, total, uses}
 use Rattle.odb_sessions.proofs.Adds.{live_joined}
 use Rattle.odb_sessions.proofs.Releases.{uses-++}
@@ -29,11 +29,11 @@ module _ {X : Type 0} (f : X → List Mark) where
 
 -- ---- those of all sessions
 
-all_used : (t p : ℕ) (es : List (ℕ × Kept)) → uses t p (flat_map entry_marks es) ≡ total (λ x. uses t p (marks_of x)) es
+all_used : (t p : ℕ) (es : List (ℕ × MarkedSession)) → uses t p (flat_map entry_marks es) ≡ total (λ x. uses t p (marks_of x)) es
 all_used t p [] = refl
 all_used t p (e ∷ es) = uses-++ t p (marks_of e.1) (flat_map entry_marks es) ∙ ap (λ n. uses t p (marks_of e.1) + n) (all_used t p es)
 
-all_live : (k : Chains) (es : List (ℕ × Kept)) → ((e : ℕ × Kept) → Member e es → AreLive k (marks_of e.1)) → AreLive k (flat_map entry_marks es)
+all_live : (k : Chains) (es : List (ℕ × MarkedSession)) → ((e : ℕ × MarkedSession) → Member e es → AreLive k (marks_of e.1)) → AreLive k (flat_map entry_marks es)
 all_live k [] h = tt
 all_live k (e ∷ es) h = live_joined k (marks_of e.1) (flat_map entry_marks es) (h e (inl refl)) (all_live k es (λ x there. h x (inr there)))
 

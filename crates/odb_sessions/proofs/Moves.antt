@@ -20,10 +20,10 @@ pub stood : (o : Option Standing) (content : Table) → 0 < marks_of o → ((y :
 stood None content low same = absurd (omega (arith, low))
 stood (Some y) content low same = λ i. let s : Option Standing = Some (record { content = same y refl i; marks = y.marks }) in s
 
-same_place : (t p : ℕ) (m : Mark) → is_at t p m ≡ true → (t ≡ m.table) × (p ≡ m.place)
-same_place t p m e = by (nat_eq t m.table) refl e
+table_and_version : (t p : ℕ) (m : Mark) → is_at t p m ≡ true → (t ≡ m.table) × (p ≡ m.version)
+table_and_version t p m e = by (nat_eq t m.table) refl e
   where
-    by : (b : Bool) → nat_eq t m.table ≡ b → (b && nat_eq p m.place) ≡ true → (t ≡ m.table) × (p ≡ m.place)
+    by : (b : Bool) → nat_eq t m.table ≡ b → (b && nat_eq p m.version) ≡ true → (t ≡ m.table) × (p ≡ m.version)
     by true is e = (grind (arith, nat_tests), grind (arith, nat_tests))
     by false is e = absurd (true≢false (sym e))
 
@@ -47,25 +47,25 @@ inside (l ∷ ls) zero p x there = omega arith
 inside (l ∷ ls) (suc t) p x there = let low : t < length ls = inside ls t p x there in omega (arith, low)
 
 module _ (k : Chains) (table : ℕ) (low : table < length k.live) where
-  abbrev place : ℕ
-  place = version k table
+  abbrev newest : ℕ
+  newest = version k table
 
   abbrev more : Standing
-  more = record { content = table_at k.db table; marks = count k table place + 1 }
+  more = record { content = table_at k.db table; marks = count k table newest + 1 }
 
   abbrev new : Live
-  new = finite.insert (live_at k table) place more
+  new = finite.insert (live_at k table) newest more
 
   stands_marked : (t p : ℕ) → standing (marked table k) t p ≡ cond (is_at t p (mark_of k table)) (Some more) (standing k t p)
   stands_marked t p = by (nat_eq t table) refl
     where
-      by : (b : Bool) → nat_eq t table ≡ b → standing (marked table k) t p ≡ cond (b && nat_eq p place) (Some more) (standing k t p)
+      by : (b : Bool) → nat_eq t table ≡ b → standing (marked table k) t p ≡ cond (b && nat_eq p newest) (Some more) (standing k t p)
       by true is =
           let own : t ≡ table = grind (arith, nat_tests) in
           ap (λ q. standing (marked table k) q p) own ∙ ap (λ (l : Live). finite.get l p) (got_here k.live table new low)
-          ∙ get-insert (live_at k table) place more p
-          ∙ ap (λ b. cond b (Some more) (standing k table p)) (unsigned_tied p place)
-          ∙ ap (λ q. cond (nat_eq p place) (Some more) (standing k q p)) (sym own)
+          ∙ get-insert (live_at k table) newest more p
+          ∙ ap (λ b. cond b (Some more) (standing k table p)) (unsigned_tied p newest)
+          ∙ ap (λ q. cond (nat_eq p newest) (Some more) (standing k q p)) (sym own)
       by false is = ap (λ (l : Live). finite.get l p) (got_other k.live table t new is)
 
   pub counted : (t p : ℕ) → count k t p + bit (is_at t p (mark_of k table)) ≡ count (marked table k) t p
@@ -73,7 +73,7 @@ module _ (k : Chains) (table : ℕ) (low : table < length k.live) where
     where
       by : (b : Bool) → is_at t p (mark_of k table) ≡ b → count k t p + bit b ≡ count (marked table k) t p
       by true is =
-          let at : (t ≡ table) × (p ≡ place) = same_place t p (mark_of k table) is in
+          let at : (t ≡ table) × (p ≡ newest) = table_and_version t p (mark_of k table) is in
           (λ i. count k (at.0 i) (at.1 i) + 1) ∙ sym (ap marks_of (stands_marked t p ∙ ap (λ b. cond b (Some more) (standing k t p)) is))
       by false is =
           let same : count (marked table k) t p ≡ count k t p = ap marks_of (stands_marked t p ∙ ap (λ b. cond b (Some more) (standing k t p)) is) in
@@ -84,7 +84,7 @@ module _ (k : Chains) (table : ℕ) (low : table < length k.live) where
     where
       by : (b : Bool) → is_at t p (mark_of k table) ≡ b → standing (marked table k) t p ≡ Some (record { content = x.content; marks = count (marked table k) t p })
       by true is =
-          let at : (t ≡ table) × (p ≡ place) = same_place t p (mark_of k table) is in
+          let at : (t ≡ table) × (p ≡ newest) = table_and_version t p (mark_of k table) is in
           let stands : standing (marked table k) t p ≡ Some more = stands_marked t p ∙ ap (λ b. cond b (Some more) (standing k t p)) is in
           let late : p ≡ version k t = at.1 ∙ ap (version k) (sym at.0) in
           let same : table_at k.db table ≡ x.content = ap (table_at k.db) (sym at.0) ∙ sym ((now t p x there).1 late) in
@@ -96,17 +96,17 @@ module _ (k : Chains) (table : ℕ) (low : table < length k.live) where
 
 -- ---- one mark is moved
 
-pub moves_one : (k new : Chains) (m : Mark) → HasAll k (m ∷ []) → IsNow k → new ≡ released m.table m.place (marked m.table k) → IsNow new → Moves k new (m ∷ [])
+pub moves_one : (k new : Chains) (m : Mark) → HasAll k (m ∷ []) → IsNow k → new ≡ released m.table m.version (marked m.table k) → IsNow new → Moves k new (m ∷ [])
 moves_one k new m has now is last =
     let t0 = m.table in
     let k1 : Chains = marked t0 k in
-    let low : t0 < length k.live = inside k.live t0 m.place _ has.0.0.1 in
+    let low : t0 < length k.live = inside k.live t0 m.version _ has.0.0.1 in
     let m1 : Mark = mark_of k t0 in
     let some : (t p : ℕ) → uses t p (m ∷ []) ≤ count k1 t p = λ t p.
     let one : count k t p + bit (is_at t p m1) ≡ count k1 t p = counted k t0 low t p in
     let there : uses t p (m ∷ []) ≤ count k t p = has.1 t p in
     omega (arith, one, there) in
-    let live : AreLive k1 (m ∷ []) = ((count k1 t0 m.place, kept k t0 low now t0 m.place _ has.0.0.1), tt) in
+    let live : AreLive k1 (m ∷ []) = ((count k1 t0 m.version, kept k t0 low now t0 m.version _ has.0.0.1), tt) in
     let f : Frees k1 new (m ∷ []) = frees_one k1 new m (live, some) is last in (
       f.0,
       f.1,
@@ -122,7 +122,7 @@ moves_one k new m has now is last =
 
 -- with the same database and versions, now is the same
 pub same_now : (a b : Chains) (ms : List Mark) → b.db ≡ a.db → b.versions ≡ a.versions → all_now b ms ≡ all_now a ms
-same_now a b ms db versions = λ i. map (λ m. let x : Mark = record { table = m.table; place = unwrap_or (slice_get (versions i) m.table) 0; content = table_at (db i) m.table } in x) ms
+same_now a b ms db versions = λ i. map (λ m. let x : Mark = record { table = m.table; version = unwrap_or (slice_get (versions i) m.table) 0; content = table_at (db i) m.table } in x) ms
 
 pub same_version : (a b : Chains) (t : ℕ) → b.versions ≡ a.versions → version b t ≡ version a t
 same_version a b t versions = ap (λ vs. unwrap_or (slice_get vs t) 0) versions
@@ -138,7 +138,7 @@ came_late k (m ∷ ms) t p h = by (is_at t p (now_of k m)) refl h (came_late k m
   where
     by : (b : Bool) → is_at t p (now_of k m) ≡ b → 0 < bit b + uses t p (all_now k ms) → (0 < uses t p (all_now k ms) → p ≡ version k t) → p ≡ version k t
     by true is h rest =
-        let at : (t ≡ m.table) × (p ≡ version k m.table) = same_place t p (now_of k m) is in
+        let at : (t ≡ m.table) × (p ≡ version k m.table) = table_and_version t p (now_of k m) is in
         at.1 ∙ ap (version k) (sym at.0)
     by false is h rest = rest (omega (arith, h))
 
@@ -146,8 +146,8 @@ pub moves_none : (k : Chains) → Moves k k []
 moves_none k = (refl, refl, λ t p. refl, λ t p x there h. stood (standing k t p) x.content h (λ y is. ap (λ (z : Standing). z.content) (same_Some y x (sym is ∙ there))), λ n. n)
 
 -- a mark that stands for now
-pub stays_now : (k : Chains) (m : Mark) → m.place ≡ version k m.table → m.content ≡ table_at k.db m.table → now_of k m ≡ m
-stays_now k m place content = λ i. let x : Mark = record { table = m.table; place = sym place i; content = sym content i } in x
+pub stays_now : (k : Chains) (m : Mark) → m.version ≡ version k m.table → m.content ≡ table_at k.db m.table → now_of k m ≡ m
+stays_now k m same content = λ i. let x : Mark = record { table = m.table; version = sym same i; content = sym content i } in x
 
 pub moves_still : (k : Chains) (m : Mark) → now_of k m ≡ m → Moves k k (m ∷ [])
 moves_still k m same =

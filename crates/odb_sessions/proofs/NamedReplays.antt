@@ -12,7 +12,7 @@ use Rattle.odb_service.specs.Server.{served_by}
 use Rattle.odb_service.specs.Session.{Item, Session, Watch, asked, asked_after, asks, at_first, changed, drop_first, refilter, renamed, same_id, say, shapes, shift, start, stopped, sync}
 use Rattle.odb_service.specs.World.{watched}
 use Rattle.odb_sessions.specs.Asked.{is_same}
-use Rattle.odb_sessions.specs.Held.{Watched}
+use Rattle.odb_sessions.specs.Marked.{Watched}
 use Rattle.odb_sessions.specs.Named.{Named, asks_named, named, named_after, named_asked, under_id}
 use Rattle.odb_sessions.proofs.Replays.{map-map, taken_found, taken_nowhere}
 

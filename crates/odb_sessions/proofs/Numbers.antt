@@ -12,7 +12,7 @@ use Rattle.std.specs.Ordering.{eq_by_cmp, is_lt, nat_cmp}
 use Rattle.odb_atoms.specs.FinMap as finite
 use Rattle.odb_atoms.proofs.Rising.{find-below}
 use Rattle.odb_chain.specs.Chains.{Mark}
-use Rattle.odb_sessions.specs.Held.{Kept, marks_of}
+use Rattle.odb_sessions.specs.Marked.{MarkedSession, marks_of}
 use Rattle.odb_sessions.specs.Represented.Keyed.{key_of, session_under, sessions_under}
 use Rattle.odb_sessions.specs.Tied.{entry_marks}
 use Rattle.odb_sessions.proofs.Keyed.{get-under}
@@ -44,18 +44,18 @@ find-is q (e ∷ es) = ap (cond (eq_by_cmp nat_cmp q e.0) (Some e.1)) (find-is q
 -- ---- the sessions in the order of the index
 
 -- with this session in front, if there is one
-abbrev pub onto : Option Kept → ℕ → List (ℕ × Kept) → List (ℕ × Kept)
+abbrev pub onto : Option MarkedSession → ℕ → List (ℕ × MarkedSession) → List (ℕ × MarkedSession)
 onto None n es = es
 onto (Some x) n es = (n, x) ∷ es
 
 -- the marks of a session, if there is one
-abbrev pub marks_there : Option Kept → List Mark
+abbrev pub marks_there : Option MarkedSession → List Mark
 marks_there None = []
 marks_there (Some x) = marks_of x
 
-module _ (slots : List (Option Kept)) where
+module _ (slots : List (Option MarkedSession)) where
   -- what lies under each key of the index, with its number
-  abbrev pub filled : List (ℕ × ℕ) → List (ℕ × Kept)
+  abbrev pub filled : List (ℕ × ℕ) → List (ℕ × MarkedSession)
   filled [] = []
   filled (e ∷ es) = onto (session_under slots e.1) e.0 (filled es)
 
@@ -65,7 +65,7 @@ module _ (slots : List (Option Kept)) where
       let parts : T (is_lt (nat_cmp x e.0)) × T (below_all nat_cmp x es) = apart (is_lt (nat_cmp x e.0)) (below_all nat_cmp x es) h in
       by (session_under slots e.1) parts.0 (below-filled x es parts.1)
     where
-      by : (o : Option Kept) → T (is_lt (nat_cmp x e.0)) → T (below_all nat_cmp x (filled es)) → T (below_all nat_cmp x (onto o e.0 (filled es)))
+      by : (o : Option MarkedSession) → T (is_lt (nat_cmp x e.0)) → T (below_all nat_cmp x (filled es)) → T (below_all nat_cmp x (onto o e.0 (filled es)))
       by None p q = q
       by (Some y) p q = both _ _ p q
 
@@ -75,7 +75,7 @@ module _ (slots : List (Option Kept)) where
       let parts : T (below_all nat_cmp e.0 es) × T (is_sorted nat_cmp es) = apart (below_all nat_cmp e.0 es) (is_sorted nat_cmp es) h in
       by (session_under slots e.1) (below-filled e.0 es parts.0) (sorted-filled es parts.1)
     where
-      by : (o : Option Kept) → T (below_all nat_cmp e.0 (filled es)) → T (is_sorted nat_cmp (filled es)) → T (is_sorted nat_cmp (onto o e.0 (filled es)))
+      by : (o : Option MarkedSession) → T (below_all nat_cmp e.0 (filled es)) → T (is_sorted nat_cmp (filled es)) → T (is_sorted nat_cmp (onto o e.0 (filled es)))
       by None p q = q
       by (Some y) p q = both _ _ p q
 
@@ -85,7 +85,7 @@ module _ (slots : List (Option Kept)) where
       let parts : T (below_all nat_cmp e.0 es) × T (is_sorted nat_cmp es) = apart (below_all nat_cmp e.0 es) (is_sorted nat_cmp es) h in
       by (session_under slots e.1) refl (eq_by_cmp nat_cmp q e.0) refl (find-filled q es parts.1) (find-below nat_cmp_total e.0 es parts.0)
     where
-      by : (o : Option Kept) → session_under slots e.1 ≡ o → (b : Bool) → eq_by_cmp nat_cmp q e.0 ≡ b → find nat_cmp q (filled es) ≡ option_and_then (session_under slots) (find nat_cmp q es) → find nat_cmp e.0 es ≡ None
+      by : (o : Option MarkedSession) → session_under slots e.1 ≡ o → (b : Bool) → eq_by_cmp nat_cmp q e.0 ≡ b → find nat_cmp q (filled es) ≡ option_and_then (session_under slots) (find nat_cmp q es) → find nat_cmp e.0 es ≡ None
           → find nat_cmp q (onto o e.0 (filled es)) ≡ option_and_then (session_under slots) (cond b (Some e.1) (find nat_cmp q es))
       by None lies true is ih none = ih ∙ ap (option_and_then (session_under slots)) (ap (λ k. find nat_cmp k es) (same_key q e.0 is) ∙ none) ∙ sym lies
       by None lies false is ih none = ih
@@ -99,7 +99,7 @@ module _ (slots : List (Option Kept)) where
       by (session_under slots e.1) (lie e.0 e.1 (ap (λ b. cond b (Some e.1) (find nat_cmp e.0 es)) (key-itself e.0)))
       (length-filled es parts.1 (λ q k at. lie q k (later q k at (find-below nat_cmp_total e.0 es parts.0) (eq_by_cmp nat_cmp q e.0) refl)))
     where
-      by : (o : Option Kept) → IsSome o → length (filled es) ≡ length es → length (onto o e.0 (filled es)) ≡ suc (length es)
+      by : (o : Option MarkedSession) → IsSome o → length (filled es) ≡ length es → length (onto o e.0 (filled es)) ≡ suc (length es)
       by None is ih = absurd (true≢false (sym is))
       by (Some x) is ih = ap suc ih
 
@@ -115,11 +115,11 @@ module _ (slots : List (Option Kept)) where
   marks-filled [] = refl
   marks-filled (e ∷ es) = ap (λ ms. marks_under e ++ ms) (marks-filled es) ∙ by (session_under slots e.1)
     where
-      by : (o : Option Kept) → marks_there o ++ flat_map entry_marks (filled es) ≡ flat_map entry_marks (onto o e.0 (filled es))
+      by : (o : Option MarkedSession) → marks_there o ++ flat_map entry_marks (filled es) ≡ flat_map entry_marks (onto o e.0 (filled es))
       by None = refl
       by (Some x) = refl
 
-module _ (index : List (ℕ × ℕ)) (slots : List (Option Kept)) (h : IsStrictlySortedBy nat_cmp (keys_of index)) where
+module _ (index : List (ℕ × ℕ)) (slots : List (Option MarkedSession)) (h : IsStrictlySortedBy nat_cmp (keys_of index)) where
   pub entries-under : (sessions_under index slots).entries ≡ filled slots index
   unfolding finite.get
   entries-under =

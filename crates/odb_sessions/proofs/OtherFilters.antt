@@ -11,14 +11,14 @@ use Rattle.odb_service.specs.Service.{Service}
 use Rattle.odb_service.specs.Session.{Monitor, brought, changed, filter_of, refilter}
 use Rattle.odb_tables.specs.Database.{table_at}
 use Rattle.odb_sessions.specs.Composed.{AreTheirs, all_asked_as, asked_of, told_so}
-use Rattle.odb_sessions.specs.Held.{Held, Watched, marks_in, monitor_of, table_marks, view_of, watch_of}
+use Rattle.odb_sessions.specs.Marked.{MarkedMonitor, Watched, marks_in, monitor_of, table_marks, view_of, watch_of}
 use Rattle.odb_sessions.specs.Moved.{all_now, asked_under, now_of, told_now}
 use Rattle.odb_sessions.specs.Started.{AreApart}
 
 abbrev Filters : Type 0
 Filters = List (List ℕ × Filter)
 
-abbrev held : Data → Notation → Option Uuid → List Watched → Held
+abbrev held : Data → Notation → Option Uuid → List Watched → MarkedMonitor
 held i n since ws = record { id = i; notation = n; tables = ws; since = since }
 
 -- the tables as they are asked by a change of filters
@@ -67,7 +67,7 @@ pub theirs_under : (k : Chains) (fs : Filters) (ws : List Watched) → AreTheirs
 theirs_under k fs [] a = tt
 theirs_under k fs (w ∷ ws) a = (a.0, theirs_under k fs ws a.1)
 
-pub monitor_under : (h : Service) (k : Chains) (x y : Held) (fs : Filters) → y.id ≡ x.id → y.notation ≡ x.notation → y.since ≡ x.since → y.tables ≡ told_under_all k fs x.tables → AreTheirs x.tables
+pub monitor_under : (h : Service) (k : Chains) (x y : MarkedMonitor) (fs : Filters) → y.id ≡ x.id → y.notation ≡ x.notation → y.since ≡ x.since → y.tables ≡ told_under_all k fs x.tables → AreTheirs x.tables
     → monitor_of y ≡ brought h k.db (refilter fs (watch_of x).requests) (monitor_of x)
 monitor_under h k x y fs id notation since tables theirs = (λ i. told_so (id i) (notation i) (since i) (tables i)) ∙ brought_under h k x.id x.notation x.since fs x.tables theirs
 
@@ -75,7 +75,7 @@ under_marks : (k : Chains) (fs : Filters) (ws : List Watched) → table_marks (t
 under_marks k fs [] = refl
 under_marks k fs (w ∷ ws) = ap (λ ms. now_of k w.mark ∷ ms) (under_marks k fs ws)
 
-pub marks_under : (k : Chains) (x : Held) (ws : List Watched) (fs : Filters) → ws ≡ told_under_all k fs x.tables → table_marks ws ≡ all_now k (marks_in x)
+pub marks_under : (k : Chains) (x : MarkedMonitor) (ws : List Watched) (fs : Filters) → ws ≡ told_under_all k fs x.tables → table_marks ws ≡ all_now k (marks_in x)
 marks_under k x ws fs tables = ap table_marks tables ∙ under_marks k fs x.tables
 
 -- ---- one that is renamed
@@ -98,11 +98,11 @@ same_names fs (w ∷ ws) = ap (λ ns. w.request.shape.name ∷ ns) (same_names f
 pub apart_asked : (fs : Filters) (ws : List Watched) → AreApart (asked_of ws) → AreApart (asked_of (all_asked_under fs ws))
 apart_asked fs ws a = ap are_distinct (same_names fs ws) ∙ a
 
-pub monitor_renamed : (h : Service) (x y : Held) (fs : Filters) → y.notation ≡ x.notation → y.since ≡ x.since → y.tables ≡ all_asked_under fs x.tables
+pub monitor_renamed : (h : Service) (x y : MarkedMonitor) (fs : Filters) → y.notation ≡ x.notation → y.since ≡ x.since → y.tables ≡ all_asked_under fs x.tables
     → monitor_of y ≡ (let m : Monitor = record (monitor_of x) { watch = changed h y.id fs (watch_of x) } in m)
 monitor_renamed h x y fs notation since tables = (λ i. told_so y.id (notation i) (since i) ((tables ∙ as_under fs x.tables) i)) ∙ renamed_seen h x.id y.id x.notation x.since fs x.tables
 
-pub marks_asked : (fs : Filters) (x : Held) (ws : List Watched) → ws ≡ all_asked_under fs x.tables → table_marks ws ≡ marks_in x
+pub marks_asked : (fs : Filters) (x : MarkedMonitor) (ws : List Watched) → ws ≡ all_asked_under fs x.tables → table_marks ws ≡ marks_in x
 marks_asked fs x ws tables = ap table_marks tables ∙ by x.tables
   where
     by : (vs : List Watched) → table_marks (all_asked_under fs vs) ≡ table_marks vs

@@ -12,8 +12,8 @@ use Rattle.odb_interest.specs.Represented.Lists.{Asks}
 use Rattle.odb_service.specs.Session.{Item, Session}
 use Rattle.odb_service.proofs.SessionMaps.{get-empty, get-insert, get-remove, other, same_key, turned_about}
 use Rattle.odb_sessions.specs.Book.{Book, book_of, fresh_session}
-use Rattle.odb_sessions.specs.Held as held
-use Rattle.odb_sessions.specs.Owed.{AreAtRest, AreNoted, AreOwed, HangTogether, IsAtRest, KeepsOthers, addressed, book_seen, interest_if, is_among}
+use Rattle.odb_sessions.specs.Marked as held
+use Rattle.odb_sessions.specs.Owed.{AreAdded, AreAtRest, AreOwed, HangTogether, IsAtRest, KeepsOthers, addressed, book_seen, interest_if, is_among}
 use Rattle.odb_sessions.specs.Posts.{all_posted, at_number, unposted}
 use Rattle.odb_sessions.specs.Quiet.{IsQuiet}
 use Rattle.odb_sessions.specs.Tied.{IsTied}
@@ -109,35 +109,35 @@ said_others o i j s there others q out = by (eq_by_cmp nat_cmp q s) refl
 pub said_rest : (o : BTreeSet ℕ) (i j : Interests) (b : Book) → AreAtRest o i b → ((q : ℕ) → contains nat_cmp o q ≡ false → asked_at j q ≡ asked_at i q) → AreAtRest o j b
 said_rest o i j b before said q out = same_rest i j b b q refl (said q out) refl (before q out)
 
--- ---- those that are noted
+-- ---- those that are added
 
 -- those to whom something is posted are in the set
-pub noted_rest : (o o' : BTreeSet ℕ) (i : Interests) (b : Book) (ps : List (ℕ × Item)) → AreAtRest o i b → AreNoted o o' (addressed ps) → AreAtRest o' i (record b { sessions = all_posted b.sessions ps })
+pub noted_rest : (o o' : BTreeSet ℕ) (i : Interests) (b : Book) (ps : List (ℕ × Item)) → AreAtRest o i b → AreAdded o o' (addressed ps) → AreAtRest o' i (record b { sessions = all_posted b.sessions ps })
 noted_rest o o' i b ps before noted q out =
     let was = noted q out in
     same_rest i i b (record b { sessions = all_posted b.sessions ps }) q refl refl (not_posted b.sessions ps q was.1) (before q was.0)
 
-pub still_rest : (o o' : BTreeSet ℕ) (i : Interests) (b : Book) (ss : List ℕ) → AreAtRest o i b → AreNoted o o' ss → AreAtRest o' i b
+pub still_rest : (o o' : BTreeSet ℕ) (i : Interests) (b : Book) (ss : List ℕ) → AreAtRest o i b → AreAdded o o' ss → AreAtRest o' i b
 still_rest o o' i b ss before noted q out = before q (noted q out).0
 
 -- those that a change of the database concerns are in the set
-pub changed_rest : (o o' : BTreeSet ℕ) (i : Interests) (b c : Book) (ss : List ℕ) → AreAtRest o i b → AreNoted o o' ss → ((s : ℕ) → is_among s ss ≡ false → IsAtRest i b s → IsAtRest i c s) → AreAtRest o' i c
+pub changed_rest : (o o' : BTreeSet ℕ) (i : Interests) (b c : Book) (ss : List ℕ) → AreAtRest o i b → AreAdded o o' ss → ((s : ℕ) → is_among s ss ≡ false → IsAtRest i b s → IsAtRest i c s) → AreAtRest o' i c
 changed_rest o o' i b c ss before noted concerned q out =
     let was = noted q out in
     concerned q was.1 (before q was.0)
 
-pub none_noted : (o : BTreeSet ℕ) → AreNoted o o []
+pub none_noted : (o : BTreeSet ℕ) → AreAdded o o []
 none_noted o q out = (out, refl)
 
--- one that is noted, and then the rest
-pub one_noted : (o o' n : BTreeSet ℕ) (s : ℕ) (ss : List ℕ) → Updates nat_cmp o o' s true → AreNoted o' n ss → AreNoted o n (s ∷ ss)
+-- one that is added, and then the others
+pub one_noted : (o o' n : BTreeSet ℕ) (s : ℕ) (ss : List ℕ) → Updates nat_cmp o o' s true → AreAdded o' n ss → AreAdded o n (s ∷ ss)
 one_noted o o' n s ss changed rest q out =
     let later = rest q out in
     let was = out_before o o' s q changed later.0 in
     (was.1, ap (λ b. b || is_among q ss) was.0 ∙ later.1)
 
 -- who was out before stays out before
-pub kept_noted : (first old now : BTreeSet ℕ) (s : ℕ) → AreNoted first old [] → Updates nat_cmp old now s true → AreNoted first now []
+pub kept_noted : (first old now : BTreeSet ℕ) (s : ℕ) → AreAdded first old [] → Updates nat_cmp old now s true → AreAdded first now []
 kept_noted first old now s before changed q out = before q (out_before old now s q changed out).1
 
 -- ---- what changes no session that is at rest

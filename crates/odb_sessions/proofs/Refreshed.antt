@@ -8,7 +8,7 @@ use Rattle.odb_service.specs.Session.{Item, Monitor, Out, Revision, Session, bro
 use Rattle.odb_service.proofs.SessionMaps.{same_map}
 use Rattle.odb_sessions.specs.Book.{Book}
 use Rattle.odb_sessions.specs.Carried.{used_by, first_brought}
-use Rattle.odb_sessions.specs.Held.{Sessions, all_seen}
+use Rattle.odb_sessions.specs.Marked.{Sessions, all_seen}
 use Rattle.odb_sessions.specs.Owed.{book_seen}
 use Rattle.odb_sessions.specs.Posts.{at_number}
 use Rattle.odb_sessions.specs.Quiet.{IsQuiet, IsQuietAt}

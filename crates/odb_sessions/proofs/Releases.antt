@@ -36,29 +36,29 @@ get-with_standing l p (Some x) q = get-insert l p x q
 
 module _ (k : Chains) (m : Mark) (live : IsLive k m) where
   abbrev pub after : Chains
-  after = released m.table m.place k
+  after = released m.table m.version k
 
   pub stands_after : (t p : ℕ) → standing after t p ≡ cond (is_at t p m) (option_and_then one_less (standing k t p)) (standing k t p)
   stands_after t p = by (nat_eq t m.table) refl
     where
       new : Live
-      new = with_standing (live_at k m.table) m.place (option_and_then one_less (standing k m.table m.place))
+      new = with_standing (live_at k m.table) m.version (option_and_then one_less (standing k m.table m.version))
 
       low : m.table < length k.live
-      low = inside k.live m.table m.place _ live.1
+      low = inside k.live m.table m.version _ live.1
 
-      at_place : (b : Bool) → nat_eq p m.place ≡ b → cond b (option_and_then one_less (standing k m.table m.place)) (standing k m.table p) ≡ cond b (option_and_then one_less (standing k m.table p)) (standing k m.table p)
-      at_place true is = let own : m.place ≡ p = grind (arith, nat_tests) in ap (λ q. option_and_then one_less (standing k m.table q)) own
-      at_place false is = refl
+      at_version : (b : Bool) → nat_eq p m.version ≡ b → cond b (option_and_then one_less (standing k m.table m.version)) (standing k m.table p) ≡ cond b (option_and_then one_less (standing k m.table p)) (standing k m.table p)
+      at_version true is = let own : m.version ≡ p = grind (arith, nat_tests) in ap (λ q. option_and_then one_less (standing k m.table q)) own
+      at_version false is = refl
 
-      by : (b : Bool) → nat_eq t m.table ≡ b → standing after t p ≡ cond (b && nat_eq p m.place) (option_and_then one_less (standing k t p)) (standing k t p)
+      by : (b : Bool) → nat_eq t m.table ≡ b → standing after t p ≡ cond (b && nat_eq p m.version) (option_and_then one_less (standing k t p)) (standing k t p)
       by true is =
           let own : t ≡ m.table = grind (arith, nat_tests) in
           ap (λ q. standing after q p) own ∙ ap (λ (l : Live). finite.get l p) (got_here k.live m.table new low)
-          ∙ get-with_standing (live_at k m.table) m.place (option_and_then one_less (standing k m.table m.place)) p
-          ∙ ap (λ b. cond b (option_and_then one_less (standing k m.table m.place)) (standing k m.table p)) (unsigned_tied p m.place)
-          ∙ at_place (nat_eq p m.place) refl
-          ∙ ap (λ q. cond (nat_eq p m.place) (option_and_then one_less (standing k q p)) (standing k q p)) (sym own)
+          ∙ get-with_standing (live_at k m.table) m.version (option_and_then one_less (standing k m.table m.version)) p
+          ∙ ap (λ b. cond b (option_and_then one_less (standing k m.table m.version)) (standing k m.table p)) (unsigned_tied p m.version)
+          ∙ at_version (nat_eq p m.version) refl
+          ∙ ap (λ q. cond (nat_eq p m.version) (option_and_then one_less (standing k q p)) (standing k q p)) (sym own)
       by false is = ap (λ (l : Live). finite.get l p) (got_other k.live m.table t new is)
 
   -- how many stand there
@@ -123,19 +123,19 @@ live-right k (x ∷ xs) ys h = live-right k xs ys h.1
 pub has-left : (k : Chains) (xs ys : List Mark) → HasAll k (xs ++ ys) → HasAll k xs
 has-left k xs ys h = (live-left k xs ys h.0, λ t p. let sum : uses t p (xs ++ ys) ≡ uses t p xs + uses t p ys = uses-++ t p xs ys in let low : uses t p (xs ++ ys) ≤ count k t p = h.1 t p in omega (arith, sum, low))
 
-pub itself_at : (m : Mark) → is_at m.table m.place m ≡ true
-itself_at m = let a : nat_eq m.table m.table ≡ true = grind (arith, nat_tests) in let b : nat_eq m.place m.place ≡ true = grind (arith, nat_tests) in λ i. a i && b i
+pub itself_at : (m : Mark) → is_at m.table m.version m ≡ true
+itself_at m = let a : nat_eq m.table m.table ≡ true = grind (arith, nat_tests) in let b : nat_eq m.version m.version ≡ true = grind (arith, nat_tests) in λ i. a i && b i
 
-pub used_once : (m : Mark) (ms : List Mark) → 1 ≤ uses m.table m.place (m ∷ ms)
-used_once m ms = let one : bit (is_at m.table m.place m) ≡ 1 = ap bit (itself_at m) in omega (arith, one)
+pub used_once : (m : Mark) (ms : List Mark) → 1 ≤ uses m.table m.version (m ∷ ms)
+used_once m ms = let one : bit (is_at m.table m.version m) ≡ 1 = ap bit (itself_at m) in omega (arith, one)
 
 -- marks that are counted still are live still
 pub still_live : (old new : Chains) (ms : List Mark) → KeepsContents old new → AreLive old ms → ((t p : ℕ) → uses t p ms ≤ count new t p) → AreLive new ms
 still_live old new [] keeps live low = tt
 still_live old new (m ∷ ms) keeps live low =
-    let one : 1 ≤ uses m.table m.place (m ∷ ms) = used_once m ms in
-    let left : uses m.table m.place (m ∷ ms) ≤ count new m.table m.place = low m.table m.place in
-    ((count new m.table m.place, keeps m.table m.place _ live.0.1 (omega (arith, one, left))), still_live old new ms keeps live.1 (λ t p. let all : uses t p (m ∷ ms) ≤ count new t p = low t p in omega (arith, all)))
+    let one : 1 ≤ uses m.table m.version (m ∷ ms) = used_once m ms in
+    let left : uses m.table m.version (m ∷ ms) ≤ count new m.table m.version = low m.table m.version in
+    ((count new m.table m.version, keeps m.table m.version _ live.0.1 (omega (arith, one, left))), still_live old new ms keeps live.1 (λ t p. let all : uses t p (m ∷ ms) ≤ count new t p = low t p in omega (arith, all)))
 
 pub has-rest : (old new : Chains) (xs ys : List Mark) → HasAll old (xs ++ ys) → Frees old new xs → HasAll new ys
 has-rest old new xs ys h f =
@@ -169,7 +169,7 @@ frees_on a b c xs ys f g = (
 )
 
 -- one mark is released
-pub frees_one : (k new : Chains) (m : Mark) → HasAll k (m ∷ []) → new ≡ released m.table m.place k → IsNow new → Frees k new (m ∷ [])
+pub frees_one : (k new : Chains) (m : Mark) → HasAll k (m ∷ []) → new ≡ released m.table m.version k → IsNow new → Frees k new (m ∷ [])
 frees_one k new m h is now =
     subst (λ (c : Chains). IsNow c → Frees k c (m ∷ [])) (sym is)
     (λ now. (
@@ -177,7 +177,7 @@ frees_one k new m h is now =
       refl,
       λ t p.
           let some : is_at t p m ≡ true → 0 < count k t p = λ at. (let own : bit (is_at t p m) ≡ 1 = ap bit at in let low : uses t p (m ∷ []) ≤ count k t p = h.1 t p in omega (arith, own, low)) in
-          let less : count k t p ≡ count (released m.table m.place k) t p + bit (is_at t p m) = count_after k m h.0.0 t p some in
+          let less : count k t p ≡ count (released m.table m.version k) t p + bit (is_at t p m) = count_after k m h.0.0 t p some in
           omega (arith, less),
       contents_after k m h.0.0,
       λ before. now,

@@ -6,7 +6,7 @@ use Rattle.odb_chain.specs.Chains.{Chains, IsLive, Mark, absorbed, chains_of, re
 use Rattle.odb_request.specs.Request.{Request}
 use Rattle.odb_tables.specs.Change.{Changes, all_changed_by}
 use Rattle.odb_tables.specs.Database.{Db}
-use Rattle.odb_sessions.specs.Held.{Watched}
+use Rattle.odb_sessions.specs.Marked.{Watched}
 use Rattle.odb_sessions.specs.Moved.{Moves}
 use Rattle.odb_sessions.specs.Tied.{Adds, HasRoom, KeepsRoom, counted_in}
 use Rattle.odb_sessions.proofs.Adds.{length-set}
@@ -25,10 +25,10 @@ length-changed (d ∷ db) (c ∷ cs) as_many = ap suc (length-changed db cs (ome
 pub room_absorbed : (k new : Chains) (cs : List Changes) (n : ℕ) → HasRoom k n → length cs ≡ length k.db → new ≡ absorbed cs k → HasRoom new n
 room_absorbed k new cs n room as_many is = subst (λ (c : Chains). HasRoom c n) (sym is) (room.0 ∙ sym (length-changed k.db cs as_many), room.1)
 
-pub room_released : (k new : Chains) (m : Mark) (n : ℕ) → HasRoom k n → IsLive k m → new ≡ released m.table m.place k → HasRoom new n
+pub room_released : (k new : Chains) (m : Mark) (n : ℕ) → HasRoom k n → IsLive k m → new ≡ released m.table m.version k → HasRoom new n
 room_released k new m n room live is =
-    let low : m.table < length k.live = stands_inside k.live m.table m.place _ live.1 in
-    let few : counted_in (released m.table m.place k).live ≤ counted_in k.live = none_more k m.table m.place low in
+    let low : m.table < length k.live = stands_inside k.live m.table m.version _ live.1 in
+    let few : counted_in (released m.table m.version k).live ≤ counted_in k.live = none_more k m.table m.version low in
     let all : counted_in k.live < n = room.1 in
     subst (λ (c : Chains). HasRoom c n) (sym is) (length-set k.live m.table _ ∙ room.0, omega (arith, few, all))
 

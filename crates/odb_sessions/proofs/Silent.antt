@@ -9,7 +9,7 @@ use Rattle.odb_monitor.specs.View.{Contents, Delta, delta, is_empty, is_none, se
 use Rattle.odb_monitor.proofs.Seen.{none_shown}
 use Rattle.odb_request.specs.Request.{Notation, shapes, table_names}
 use Rattle.odb_sessions.specs.Composed.{IsLacking, later_job, part_to}
-use Rattle.odb_sessions.specs.Held.{Watched}
+use Rattle.odb_sessions.specs.Marked.{Watched}
 use Rattle.odb_tables.specs.Change.{Changes}
 use Rattle.odb_tables.specs.Database.{Db, table_at}
 

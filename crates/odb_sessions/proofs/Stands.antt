@@ -3,7 +3,7 @@ use Rattle.std.proofs.Common.{List, [], ap, arith, get_or, length, map, refl, su
 use Rattle.odb_request.specs.Request.{Request}
 use Rattle.odb_sessions.proofs.Loops.{mapped_more}
 use Rattle.odb_sessions.specs.Composed.{asked_of}
-use Rattle.odb_sessions.specs.Held.{Watched}
+use Rattle.odb_sessions.specs.Marked.{Watched}
 use Rattle.odb_sessions.specs.Represented.Alike.{stand_in}
 use Rattle.odb_sessions.specs.declared.way.Way.TheVariants as way
 

@@ -15,7 +15,7 @@ use Rattle.odb_request.specs.declared.change.Change.{Change}
 use Rattle.odb_schema.specs.Schema.{Schema}
 use Rattle.odb_service.specs.Session.{drop_first, filter_of}
 use Rattle.odb_sessions.specs.Composed.{asked_of}
-use Rattle.odb_sessions.specs.Held.{Watched}
+use Rattle.odb_sessions.specs.Marked.{Watched}
 use Rattle.odb_sessions.specs.Started.{AreApart}
 use Rattle.odb_sessions.proofs.NamedReplays.{gone_found}
 

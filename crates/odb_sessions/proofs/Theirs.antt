@@ -5,7 +5,7 @@ use Rattle.odb_service.specs.Service.{Service}
 use Rattle.odb_service.specs.Session.{brought, refilter}
 use Rattle.odb_sessions.specs.Composed.{AreTheirs, IsKnown, asked_of, told_so}
 use Rattle.odb_sessions.specs.Filtered.{Filters}
-use Rattle.odb_sessions.specs.Held.{Held, Watched, marks_in, monitor_of, table_marks, watch_of}
+use Rattle.odb_sessions.specs.Marked.{MarkedMonitor, Watched, marks_in, monitor_of, table_marks, watch_of}
 use Rattle.odb_sessions.specs.Moved.{all_now, brought_to}
 use Rattle.odb_sessions.specs.Tied.{AreLive}
 use Rattle.odb_sessions.proofs.Brought.{brought_marks, brought_seen}
@@ -34,9 +34,9 @@ as_many fs [] = refl
 as_many fs (w ∷ ws) = ap suc (as_many fs ws)
 
 -- a monitor that is brought to now, as the machine sees it
-pub monitor_brought : (h : Service) (k : Chains) (x y : Held) → y.id ≡ x.id → y.notation ≡ x.notation → y.since ≡ x.since → y.tables ≡ map (brought_to k) x.tables → AreTheirs x.tables
+pub monitor_brought : (h : Service) (k : Chains) (x y : MarkedMonitor) → y.id ≡ x.id → y.notation ≡ x.notation → y.since ≡ x.since → y.tables ≡ map (brought_to k) x.tables → AreTheirs x.tables
     → monitor_of y ≡ brought h k.db (watch_of x).requests (monitor_of x)
 monitor_brought h k x y id notation since tables theirs = (λ i. told_so (id i) (notation i) (since i) (tables i)) ∙ brought_seen h k x.id x.notation x.since x.tables theirs
 
-pub marks_brought : (k : Chains) (x : Held) (ws : List Watched) → ws ≡ map (brought_to k) x.tables → table_marks ws ≡ all_now k (marks_in x)
+pub marks_brought : (k : Chains) (x : MarkedMonitor) (ws : List Watched) → ws ≡ map (brought_to k) x.tables → table_marks ws ≡ all_now k (marks_in x)
 marks_brought k x ws tables = ap table_marks tables ∙ brought_marks k x.tables

@@ -12,23 +12,23 @@ use Rattle.odb_service.specs.Session.{Session}
 use Rattle.odb_service.proofs.SessionMaps.{get-empty, get-insert, get-remove, same_key, same_map}
 use Rattle.odb_tables.specs.Change.{Changes}
 use Rattle.odb_tables.specs.Database.{Db}
-use Rattle.odb_sessions.specs.Held.{Kept, Sessions, all_seen, marks_of, nothing_kept, seen, seen_entry}
+use Rattle.odb_sessions.specs.Marked.{MarkedSession, Sessions, all_seen, empty_session, marks_of, seen, seen_entry}
 use Rattle.odb_sessions.specs.Tied.{AreLive, Frees, HasAll, IsTied, total, used, uses}
 use Rattle.odb_sessions.specs.Watches.{Joins}
 use Rattle.odb_sessions.proofs.Releases.{still_live}
 use Rattle.odb_sessions.proofs.Sums.{slot, total-put, total-without, weight_within}
 use Rattle.odb_sessions.proofs.WatchNumbers.{alike_less, alike_none, alike_put, joins_none}
 
-abbrev pub weight : ℕ → ℕ → Kept → ℕ
+abbrev pub weight : ℕ → ℕ → MarkedSession → ℕ
 weight t p x = uses t p (marks_of x)
 
 -- ---- what the machine sees
 
-below-seen : (k : ℕ) (es : List (ℕ × Kept)) → below_all nat_cmp k (map seen_entry es) ≡ below_all nat_cmp k es
+below-seen : (k : ℕ) (es : List (ℕ × MarkedSession)) → below_all nat_cmp k (map seen_entry es) ≡ below_all nat_cmp k es
 below-seen k [] = refl
 below-seen k (e ∷ es) = ap (λ b. is_lt (nat_cmp k e.0) && b) (below-seen k es)
 
-sorted-seen : (es : List (ℕ × Kept)) → is_sorted nat_cmp (map seen_entry es) ≡ is_sorted nat_cmp es
+sorted-seen : (es : List (ℕ × MarkedSession)) → is_sorted nat_cmp (map seen_entry es) ≡ is_sorted nat_cmp es
 sorted-seen [] = refl
 sorted-seen (e ∷ es) = λ i. below-seen e.0 es i && sorted-seen es i
 
@@ -36,7 +36,7 @@ get-from_entries : (es : List (ℕ × Session)) (q : ℕ) → finite.get (finite
 get-from_entries [] q = get-empty q
 get-from_entries (e ∷ es) q = get-insert (finite.from_entries es) e.0 e.1 q ∙ ap (cond (eq_by_cmp nat_cmp q e.0) (Some e.1)) (get-from_entries es q)
 
-find-seen : (q : ℕ) (es : List (ℕ × Kept)) → find nat_cmp q (map seen_entry es) ≡ option_map seen (find nat_cmp q es)
+find-seen : (q : ℕ) (es : List (ℕ × MarkedSession)) → find nat_cmp q (map seen_entry es) ≡ option_map seen (find nat_cmp q es)
 find-seen q [] = refl
 find-seen q (e ∷ es) = by (eq_by_cmp nat_cmp q e.0) (find-seen q es)
   where
@@ -55,12 +55,12 @@ len-seen m =
     let as_sorted : finite.from_entries {R = nat_cmp} es ≡ finite.from_sorted es = same_map _ _ (λ q. get-from_entries es q ∙ ap (find nat_cmp q) (sym (entries-from_sorted nat_cmp es sorted)) ∙ sym (get-entries (finite.from_sorted {R = nat_cmp} es) q)) in
     sym (length-map m.entries seen_entry) ∙ sym (ap length (entries-from_sorted nat_cmp es sorted)) ∙ ap (λ (n : finite.FinMap nat_cmp Session). length n.entries) (sym as_sorted)
 
-pub seen-insert : (m : Sessions) (s : ℕ) (x : Kept) → all_seen (finite.insert m s x) ≡ finite.insert (all_seen m) s (seen x)
+pub seen-insert : (m : Sessions) (s : ℕ) (x : MarkedSession) → all_seen (finite.insert m s x) ≡ finite.insert (all_seen m) s (seen x)
 seen-insert m s x =
     same_map _ _
     (λ q. get-seen (finite.insert m s x) q ∙ ap (option_map seen) (get-insert m s x q) ∙ by (eq_by_cmp nat_cmp q s) (finite.get m q) ∙ ap (cond (eq_by_cmp nat_cmp q s) (Some (seen x))) (sym (get-seen m q)) ∙ sym (get-insert (all_seen m) s (seen x) q))
   where
-    by : (b : Bool) (o : Option Kept) → option_map seen (cond b (Some x) o) ≡ cond b (Some (seen x)) (option_map seen o)
+    by : (b : Bool) (o : Option MarkedSession) → option_map seen (cond b (Some x) o) ≡ cond b (Some (seen x)) (option_map seen o)
     by true o = refl
     by false o = refl
 
@@ -69,7 +69,7 @@ seen-remove m s =
     same_map _ _
     (λ q. get-seen (finite.remove m s) q ∙ ap (option_map seen) (get-remove m s q) ∙ by (eq_by_cmp nat_cmp q s) (finite.get m q) ∙ ap (cond (eq_by_cmp nat_cmp q s) None) (sym (get-seen m q)) ∙ sym (get-remove (all_seen m) s q))
   where
-    by : (b : Bool) (o : Option Kept) → option_map seen (cond b None o) ≡ cond b None (option_map seen o)
+    by : (b : Bool) (o : Option MarkedSession) → option_map seen (cond b None o) ≡ cond b None (option_map seen o)
     by true o = refl
     by false o = refl
 
@@ -78,7 +78,7 @@ seen-empty = same_map _ _ (λ q. get-seen finite.empty q ∙ ap (option_map seen
 
 -- ---- sums over sessions
 
-pub used-insert : (t p : ℕ) (m : Sessions) (s : ℕ) (x : Kept) → used t p (finite.insert m s x) + slot (weight t p) (finite.get m s) ≡ used t p m + weight t p x
+pub used-insert : (t p : ℕ) (m : Sessions) (s : ℕ) (x : MarkedSession) → used t p (finite.insert m s x) + slot (weight t p) (finite.get m s) ≡ used t p m + weight t p x
 used-insert t p m s x =
     (λ i. total (weight t p) (entries-insert nat_cmp_total m s x i) + slot (weight t p) (get-entries m s i))
     ∙ total-put (weight t p) s x m.entries m.sorted
@@ -87,16 +87,16 @@ used-remove : (t p : ℕ) (m : Sessions) (s : ℕ) → used t p (finite.remove m
 unfolding finite.retain_keys
 used-remove t p m s = ap (λ o. used t p (finite.remove m s) + slot (weight t p) o) (get-entries m s) ∙ total-without (weight t p) s m.entries m.sorted
 
-pub used_within : (t p : ℕ) (m : Sessions) (s : ℕ) (x : Kept) → finite.get m s ≡ Some x → weight t p x ≤ used t p m
+pub used_within : (t p : ℕ) (m : Sessions) (s : ℕ) (x : MarkedSession) → finite.get m s ≡ Some x → weight t p x ≤ used t p m
 used_within t p m s x there = weight_within (weight t p) s x m.entries (sym (get-entries m s) ∙ there)
 
 -- ---- ties
 
 -- what is taken out has its marks
-pub has_all : (k : Chains) (m : Sessions) (s : ℕ) (x : Kept) → IsTied k m → finite.get m s ≡ Some x → HasAll k (marks_of x)
+pub has_all : (k : Chains) (m : Sessions) (s : ℕ) (x : MarkedSession) → IsTied k m → finite.get m s ≡ Some x → HasAll k (marks_of x)
 has_all k m s x h there = (h.2 s x there, λ t p. let within : weight t p x ≤ used t p m = used_within t p m s x there in let counted : count k t p ≡ used t p m = h.1 t p in omega (arith, within, counted))
 
-pub tied_closed : (k new : Chains) (m : Sessions) (s : ℕ) (x : Kept) → IsTied k m → finite.get m s ≡ Some x → Frees k new (marks_of x) → IsTied new (finite.remove m s)
+pub tied_closed : (k new : Chains) (m : Sessions) (s : ℕ) (x : MarkedSession) → IsTied k m → finite.get m s ≡ Some x → Frees k new (marks_of x) → IsTied new (finite.remove m s)
 tied_closed k new m s x h there f = (f.4 h.0, counted, (λ q y at. by q y (eq_by_cmp nat_cmp q s) refl (sym (get-remove m s q) ∙ at) at), alike_less m s h.3)
   where
     counted : (t p : ℕ) → count new t p ≡ used t p (finite.remove m s)
@@ -106,7 +106,7 @@ tied_closed k new m s x h there f = (f.4 h.0, counted, (λ q y at. by q y (eq_by
         let less : count k t p ≡ count new t p + weight t p x = f.2 t p in
         omega (arith, own, all, less)
 
-    by : (q : ℕ) (y : Kept) (b : Bool) → eq_by_cmp nat_cmp q s ≡ b → cond b None (finite.get m q) ≡ Some y → finite.get (finite.remove m s) q ≡ Some y → AreLive new (marks_of y)
+    by : (q : ℕ) (y : MarkedSession) (b : Bool) → eq_by_cmp nat_cmp q s ≡ b → cond b None (finite.get m q) ≡ Some y → finite.get (finite.remove m s) q ≡ Some y → AreLive new (marks_of y)
     by q y true is there at = absurd (none-some y there)
     by q y false is there at =
         still_live k new (marks_of y) f.3 (h.2 q y there)
@@ -120,7 +120,7 @@ tied_shut k m s h none = subst (IsTied k) (sym (same_map (finite.remove m s) m (
     by q true is = sym none ∙ ap (finite.get m) (sym (same_key q s is))
     by q false is = refl
 
-pub tied_put : (k : Chains) (m : Sessions) (s : ℕ) (x : Kept) → IsTied k m → ((t p : ℕ) → weight t p x ≡ slot (weight t p) (finite.get m s)) → AreLive k (marks_of x) → Joins m x → IsTied k (finite.insert m s x)
+pub tied_put : (k : Chains) (m : Sessions) (s : ℕ) (x : MarkedSession) → IsTied k m → ((t p : ℕ) → weight t p x ≡ slot (weight t p) (finite.get m s)) → AreLive k (marks_of x) → Joins m x → IsTied k (finite.insert m s x)
 tied_put k m s x h same live joins = (
   h.0,
   λ t p.
@@ -132,20 +132,20 @@ tied_put k m s x h same live joins = (
   alike_put m s x h.3 joins,
 )
   where
-    by : (q : ℕ) (y : Kept) (b : Bool) → eq_by_cmp nat_cmp q s ≡ b → cond b (Some x) (finite.get m q) ≡ Some y → AreLive k (marks_of y)
-    by q y true is there = subst (λ (z : Kept). AreLive k (marks_of z)) (same_Some x y there) live
+    by : (q : ℕ) (y : MarkedSession) (b : Bool) → eq_by_cmp nat_cmp q s ≡ b → cond b (Some x) (finite.get m q) ≡ Some y → AreLive k (marks_of y)
+    by q y true is there = subst (λ (z : MarkedSession). AreLive k (marks_of z)) (same_Some x y there) live
     by q y false is there = h.2 q y there
 
 -- a session is opened under a number that is free
 pub none_kept : (m : Sessions) (s : ℕ) → finite.get (all_seen m) s ≡ None → finite.get m s ≡ None
 none_kept m s e = by (finite.get m s) refl (sym (get-seen m s) ∙ e)
   where
-    by : (o : Option Kept) → finite.get m s ≡ o → option_map seen o ≡ None → o ≡ None
+    by : (o : Option MarkedSession) → finite.get m s ≡ o → option_map seen o ≡ None → o ≡ None
     by None is t = refl
     by (Some x) is t = absurd (none-some (seen x) (sym t))
 
-pub tied_opened : (k : Chains) (m : Sessions) (s : ℕ) → IsTied k m → finite.get m s ≡ None → IsTied k (finite.insert m s nothing_kept)
-tied_opened k m s h shut = tied_put k m s nothing_kept h (λ t p. sym (ap (slot (weight t p)) shut)) tt (joins_none m nothing_kept refl)
+pub tied_opened : (k : Chains) (m : Sessions) (s : ℕ) → IsTied k m → finite.get m s ≡ None → IsTied k (finite.insert m s empty_session)
+tied_opened k m s h shut = tied_put k m s empty_session h (λ t p. sym (ap (slot (weight t p)) shut)) tt (joins_none m empty_session refl)
 
 pub on_err : {A E : Type 0} (r : Result A E) (Q : Type 0) → Q → OnErr r Q
 on_err (Ok x) Q q = tt

@@ -23,8 +23,8 @@ use Rattle.odb_tables.specs.Change.{Changes, after, all_changed_by, before, chan
 use Rattle.odb_tables.specs.Database.{Db, table_at}
 use Rattle.odb_tables.specs.Installing.{IsChangeOf}
 use Rattle.odb_sessions.specs.Book.{Book}
-use Rattle.odb_sessions.specs.Held.{Sessions}
-use Rattle.odb_sessions.specs.Owed.{AreAtRest, AreNoted, IsAtRest, book_seen, interest_if, interest_in, interest_of, is_among}
+use Rattle.odb_sessions.specs.Marked.{Sessions}
+use Rattle.odb_sessions.specs.Owed.{AreAdded, AreAtRest, IsAtRest, book_seen, interest_if, interest_in, interest_of, is_among}
 use Rattle.odb_sessions.specs.Quiet.{IsQuiet}
 use Rattle.odb_sessions.proofs.OwedSessions.{changed_rest}
 
@@ -138,7 +138,7 @@ untouched_rest i b cs ss is touched s out rest = (
   rest.1,
 )
 
-pub touched_rest : (o o' : BTreeSet ℕ) (i : Interests) (b : Book) (cs : List Changes) (ss : List ℕ) → AreAtRest o i b → AreNoted o o' ss → IsChangeOf b.db cs → AreTouched cs i ss → AreAtRest o' i (record b { db = all_changed_by b.db cs })
+pub touched_rest : (o o' : BTreeSet ℕ) (i : Interests) (b : Book) (cs : List Changes) (ss : List ℕ) → AreAtRest o i b → AreAdded o o' ss → IsChangeOf b.db cs → AreTouched cs i ss → AreAtRest o' i (record b { db = all_changed_by b.db cs })
 touched_rest o o' i b cs ss before noted is touched = changed_rest o o' i b (record b { db = all_changed_by b.db cs }) ss before noted (untouched_rest i b cs ss is touched)
 
 -- the book after the change, where it was the same before it

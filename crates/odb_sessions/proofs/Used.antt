@@ -6,7 +6,7 @@ use Rattle.std.proofs.lemmas.List.Sums.{sum_by-cons}
 use Rattle.odb_service.specs.Service.{Service}
 use Rattle.odb_service.specs.Session.{Item, Monitor, Session, is_answer, label, leaves, replies_in}
 use Rattle.odb_sessions.specs.Carried.{Carries, IsReady, all_begin, begins, finished_in, last_finished, used_by, used_up}
-use Rattle.odb_sessions.specs.Held.{Held, Queued, due, item_seen, marks_due, marks_of, plain}
+use Rattle.odb_sessions.specs.Marked.{MarkedItem, MarkedMonitor, due, item_seen, marks_due, marks_of, plain}
 use Rattle.odb_sessions.proofs.Carried.{carried_among, carried_from, flat, ready_part, ready_turned, turned_uses}
 use Rattle.odb_tables.specs.Database.{Db}
 
@@ -56,17 +56,17 @@ next_text n is = let next : suc n ≡ n + 1 = omega arith in ap (option_and_then
 -- ---- one item
 
 -- a queue of which the first item is taken
-module _ (k : Chains) (q : Queued) (qs : List Queued) (xs : List Held) where
+module _ (k : Chains) (q : MarkedItem) (qs : List MarkedItem) (xs : List MarkedMonitor) where
   abbrev rest : List Mark
   rest = flat_map marks_due qs
 
-  grouped : (ys : List Held) → (flat ys ++ marks_due q) ++ rest ≡ flat ys ++ (marks_due q ++ rest)
+  grouped : (ys : List MarkedMonitor) → (flat ys ++ marks_due q) ++ rest ≡ flat ys ++ (marks_due q ++ rest)
   grouped ys = append_assoc (flat ys) (marks_due q) rest
 
   pub item_ready : IsReady k (marks_of (record { queue = q ∷ qs; monitors = xs; watch = None })) → IsReady k (marks_due q ++ flat xs)
   item_ready h = ready_turned k (flat xs) (marks_due q) (ready_part k [] (flat xs ++ marks_due q) rest (subst (IsReady k) (sym (grouped xs)) h))
 
-  pub item_carried : (new : Chains) (ys : List Held) → IsReady k (marks_of (record { queue = q ∷ qs; monitors = xs; watch = None })) → Carries k new (marks_due q ++ flat xs) (flat ys)
+  pub item_carried : (new : Chains) (ys : List MarkedMonitor) → IsReady k (marks_of (record { queue = q ∷ qs; monitors = xs; watch = None })) → Carries k new (marks_due q ++ flat xs) (flat ys)
       → Carries k new (marks_of (record { queue = q ∷ qs; monitors = xs; watch = None })) (marks_of (record { queue = qs; monitors = ys; watch = None }))
   item_carried new ys h f =
       let turned : Carries k new (flat xs ++ marks_due q) (flat ys) = carried_from k new (marks_due q ++ flat xs) (flat ys) (flat xs ++ marks_due q) (λ t p. turned_uses t p (flat xs) (marks_due q)) f in
@@ -75,21 +75,21 @@ module _ (k : Chains) (q : Queued) (qs : List Queued) (xs : List Held) where
 
 -- ---- monitors alone
 
-pub monitors_ready : (k : Chains) (qs : List Queued) (xs : List Held) → IsReady k (marks_of (record { queue = qs; monitors = xs; watch = None })) → IsReady k (flat xs)
+pub monitors_ready : (k : Chains) (qs : List MarkedItem) (xs : List MarkedMonitor) → IsReady k (marks_of (record { queue = qs; monitors = xs; watch = None })) → IsReady k (flat xs)
 monitors_ready k qs xs h = ready_part k [] (flat xs) (flat_map marks_due qs) h
 
-pub monitors_carried : (k new : Chains) (qs : List Queued) (xs ys : List Held) → IsReady k (marks_of (record { queue = qs; monitors = xs; watch = None })) → Carries k new (flat xs) (flat ys)
+pub monitors_carried : (k new : Chains) (qs : List MarkedItem) (xs ys : List MarkedMonitor) → IsReady k (marks_of (record { queue = qs; monitors = xs; watch = None })) → Carries k new (flat xs) (flat ys)
     → Carries k new (marks_of (record { queue = qs; monitors = xs; watch = None })) (marks_of (record { queue = qs; monitors = ys; watch = None }))
 monitors_carried k new qs xs ys h f = carried_among k new [] (flat_map marks_due qs) (flat xs) (flat ys) h f
 
 -- ---- room
 
-pub begin-++ : (xs ys : List Queued) → all_begin (xs ++ ys) ≡ all_begin xs + all_begin ys
+pub begin-++ : (xs ys : List MarkedItem) → all_begin (xs ++ ys) ≡ all_begin xs + all_begin ys
 begin-++ [] ys = omega arith
 begin-++ (x ∷ xs) ys = let rest : all_begin (xs ++ ys) ≡ all_begin xs + all_begin ys = begin-++ xs ys in omega (arith, rest)
 
 -- each monitor that begins is a reply
-pub few_begin : (qs : List Queued) → all_begin qs ≤ replies_in (map item_seen qs)
+pub few_begin : (qs : List MarkedItem) → all_begin qs ≤ replies_in (map item_seen qs)
 few_begin [] = omega arith
 few_begin (q ∷ qs) =
     let step : replies_in (map item_seen (q ∷ qs)) ≡ cond (is_answer (label (item_seen q))) 1 0 + replies_in (map item_seen qs) = sum_by-cons (λ (i : Item). cond (is_answer (label i)) 1 0) (item_seen q) (map item_seen qs) in
@@ -97,7 +97,7 @@ few_begin (q ∷ qs) =
     let one : begins q ≤ cond (is_answer (label (item_seen q))) 1 0 = by q in
     omega (arith, step, more, one)
   where
-    by : (r : Queued) → begins r ≤ cond (is_answer (label (item_seen r))) 1 0
+    by : (r : MarkedItem) → begins r ≤ cond (is_answer (label (item_seen r))) 1 0
     by (plain i) = omega arith
     by (due d x) = omega arith
 

@@ -5,7 +5,7 @@ use Rattle.std.specs.Ordering.{eq_by_cmp, nat_cmp}
 use Rattle.std.specs.Prelude.{option_and_then}
 use Rattle.std.proofs.lemmas.Option.{none-some}
 use Rattle.odb_atoms.specs.FinMap.{get}
-use Rattle.odb_sessions.specs.Held.{Kept}
+use Rattle.odb_sessions.specs.Marked.{MarkedSession}
 use Rattle.odb_sessions.specs.Represented.Keyed.{key_of, session_under, sessions_under}
 use Rattle.odb_sessions.proofs.Keyed.{get-under}
 
@@ -13,20 +13,20 @@ abbrev pub keys_in : List (ℕ × ℕ) → List ℕ
 keys_in es = map (λ e. e.1) es
 
 -- the numbers of what lies under these keys aren't greater than this
-abbrev pub AreWithin : List (Option Kept) → ℕ → List ℕ → Type 0
-AreWithin slots g ks = AllByRecursion (λ k. (n : ℕ) (x : Kept) → session_under slots k ≡ Some x → x.watch ≡ Some n → n ≤ g) ks
+abbrev pub AreWithin : List (Option MarkedSession) → ℕ → List ℕ → Type 0
+AreWithin slots g ks = AllByRecursion (λ k. (n : ℕ) (x : MarkedSession) → session_under slots k ≡ Some x → x.watch ≡ Some n → n ≤ g) ks
 
 -- they aren't of all, where those of the rest aren't
-abbrev pub Bounds : List (Option Kept) → List (ℕ × ℕ) → ℕ → List (ℕ × ℕ) → Type 0
+abbrev pub Bounds : List (Option MarkedSession) → List (ℕ × ℕ) → ℕ → List (ℕ × ℕ) → Type 0
 Bounds slots all g rest = (b : ℕ) → g ≤ b → AreWithin slots b (keys_in rest) → AreWithin slots b (keys_in all)
 
-pub bounds_on : (slots : List (Option Kept)) (all now rest : List (ℕ × ℕ)) (k g h : ℕ) → keys_in now ≡ k ∷ keys_in rest → Bounds slots all g now → g ≤ h → ((n : ℕ) (x : Kept) → session_under slots k ≡ Some x → x.watch ≡ Some n → n ≤ h) → Bounds slots all h rest
+pub bounds_on : (slots : List (Option MarkedSession)) (all now rest : List (ℕ × ℕ)) (k g h : ℕ) → keys_in now ≡ k ∷ keys_in rest → Bounds slots all g now → g ≤ h → ((n : ℕ) (x : MarkedSession) → session_under slots k ≡ Some x → x.watch ≡ Some n → n ≤ h) → Bounds slots all h rest
 bounds_on slots all now rest k g h step before up own b low within = before b (omega (arith, up, low)) (subst (AreWithin slots b) (sym step) ((λ n x at is. let here : n ≤ h = own n x at is in omega (arith, here, low)), within))
 
-pub bounds_all : (slots : List (Option Kept)) (all rest : List (ℕ × ℕ)) (g : ℕ) → rest ≡ [] → Bounds slots all g rest → AreWithin slots g (keys_in all)
+pub bounds_all : (slots : List (Option MarkedSession)) (all rest : List (ℕ × ℕ)) (g : ℕ) → rest ≡ [] → Bounds slots all g rest → AreWithin slots g (keys_in all)
 bounds_all slots all rest g none h = h g (omega arith) (subst (λ es. AreWithin slots g (keys_in es)) (sym none) tt)
 
-pub within_all : (index : List (ℕ × ℕ)) (slots : List (Option Kept)) (g : ℕ) → AreWithin slots g (keys_in index) → (s n : ℕ) (x : Kept) → get (sessions_under index slots) s ≡ Some x → x.watch ≡ Some n → n ≤ g
+pub within_all : (index : List (ℕ × ℕ)) (slots : List (Option MarkedSession)) (g : ℕ) → AreWithin slots g (keys_in index) → (s n : ℕ) (x : MarkedSession) → get (sessions_under index slots) s ≡ Some x → x.watch ≡ Some n → n ≤ g
 within_all index slots g h s n x there is = at index h (sym (get-under index slots s) ∙ there)
   where
     at : (es : List (ℕ × ℕ)) → AreWithin slots g (keys_in es) → option_and_then (session_under slots) (key_of es s) ≡ Some x → n ≤ g

@@ -6,40 +6,40 @@ use Rattle.odb_atoms.specs.FinMap.{empty, get, insert, remove}
 use Rattle.odb_service.specs.Service.{Service}
 use Rattle.odb_service.specs.Session.{Item, Monitor, at_first, leaves, renamed, say, shift, start, stopped, sync}
 use Rattle.odb_service.proofs.SessionMaps.{get-empty, get-insert, get-remove}
-use Rattle.odb_sessions.specs.Held.{Held, Kept, Sessions, monitor_of}
+use Rattle.odb_sessions.specs.Marked.{MarkedMonitor, MarkedSession, Sessions, monitor_of}
 use Rattle.odb_sessions.specs.Carried.{first_brought}
 use Rattle.odb_sessions.specs.Watches.{AreAlike, Joins, KeepsWatch, asking_in, asking_of, watch_after, with_watch}
 use Rattle.odb_tables.specs.Database.{Db}
 
 -- ---- one session
 
-pub keeps_same : (x : Kept) → KeepsWatch x x
+pub keeps_same : (x : MarkedSession) → KeepsWatch x x
 keeps_same x n is = (is, refl)
 
 -- neither its number nor its monitors change
-pub keeps_so : (x y : Kept) → y.watch ≡ x.watch → y.monitors ≡ x.monitors → KeepsWatch x y
-keeps_so x y same monitors n is = (sym same ∙ is, ap (λ (hs : List Held). map asking_of (map monitor_of hs)) monitors)
+pub keeps_so : (x y : MarkedSession) → y.watch ≡ x.watch → y.monitors ≡ x.monitors → KeepsWatch x y
+keeps_so x y same monitors n is = (sym same ∙ is, ap (λ (hs : List MarkedMonitor). map asking_of (map monitor_of hs)) monitors)
 
-pub keeps_on : (x y z : Kept) → KeepsWatch x y → KeepsWatch y z → KeepsWatch x z
+pub keeps_on : (x y z : MarkedSession) → KeepsWatch x y → KeepsWatch y z → KeepsWatch x z
 keeps_on x y z f g n is =
     let later = g n is in
     let before = f n later.0 in
     (before.0, later.1 ∙ before.1)
 
-pub joins_kept : (m : Sessions) (s : ℕ) (x y : Kept) → AreAlike m → get m s ≡ Some x → KeepsWatch x y → Joins m y
+pub joins_kept : (m : Sessions) (s : ℕ) (x y : MarkedSession) → AreAlike m → get m s ≡ Some x → KeepsWatch x y → Joins m y
 joins_kept m s x y alike there keeps n t z own at is =
     let before = keeps n own in
     alike t s n z x at there is before.0 ∙ sym before.1
 
-pub joins_none : (m : Sessions) (x : Kept) → x.watch ≡ None → Joins m x
+pub joins_none : (m : Sessions) (x : MarkedSession) → x.watch ≡ None → Joins m x
 joins_none m x none n t z own at is = absurd (none-some n (sym none ∙ own))
 
 -- whoever asks what one does that has the number
-pub joins_like : (m : Sessions) (t n : ℕ) (y x : Kept) → AreAlike m → get m t ≡ Some y → y.watch ≡ Some n → asking_in y ≡ asking_in x → Joins m (with_watch n x)
+pub joins_like : (m : Sessions) (t n : ℕ) (y x : MarkedSession) → AreAlike m → get m t ≡ Some y → y.watch ≡ Some n → asking_in y ≡ asking_in x → Joins m (with_watch n x)
 joins_like m t n y x alike there is same k s z own at has = alike s t k z y at there has (is ∙ own) ∙ same
 
 -- whoever has a number that is greater than all
-pub joins_new : (m : Sessions) (g n : ℕ) (x : Kept) → ((s k : ℕ) (y : Kept) → get m s ≡ Some y → y.watch ≡ Some k → k ≤ g) → n ≡ g + 1 → Joins m (with_watch n x)
+pub joins_new : (m : Sessions) (g n : ℕ) (x : MarkedSession) → ((s k : ℕ) (y : MarkedSession) → get m s ≡ Some y → y.watch ≡ Some k → k ≤ g) → n ≡ g + 1 → Joins m (with_watch n x)
 joins_new m g n x low new k t y own at is =
     let here : k ≤ g = low t k y at is in
     let same : n ≡ k = same_Some n k own in
@@ -47,7 +47,7 @@ joins_new m g n x low new k t y own at is =
 
 -- ---- all sessions
 
-pub alike_put : (m : Sessions) (s : ℕ) (y : Kept) → AreAlike m → Joins m y → AreAlike (insert m s y)
+pub alike_put : (m : Sessions) (s : ℕ) (y : MarkedSession) → AreAlike m → Joins m y → AreAlike (insert m s y)
 alike_put m s y alike joins p q n a b first second one two =
     by (eq_by_cmp nat_cmp p s) (eq_by_cmp nat_cmp q s) (sym (get-insert m s y p) ∙ first) (sym (get-insert m s y q) ∙ second)
   where
@@ -55,17 +55,17 @@ alike_put m s y alike joins p q n a b first second one two =
     by true true f g = ap asking_in (sym (same_Some y a f) ∙ same_Some y b g)
     by true false f g =
         let same : y ≡ a = same_Some y a f in
-        sym (joins n q b (ap (λ (z : Kept). z.watch) same ∙ one) g two ∙ ap asking_in same)
+        sym (joins n q b (ap (λ (z : MarkedSession). z.watch) same ∙ one) g two ∙ ap asking_in same)
     by false true f g =
         let same : y ≡ b = same_Some y b g in
-        joins n p a (ap (λ (z : Kept). z.watch) same ∙ two) f one ∙ ap asking_in same
+        joins n p a (ap (λ (z : MarkedSession). z.watch) same ∙ two) f one ∙ ap asking_in same
     by false false f g = alike p q n a b f g one two
 
 pub alike_less : (m : Sessions) (s : ℕ) → AreAlike m → AreAlike (remove m s)
 alike_less m s alike p q n a b first second one two =
     alike p q n a b (by p a (eq_by_cmp nat_cmp p s) (sym (get-remove m s p) ∙ first)) (by q b (eq_by_cmp nat_cmp q s) (sym (get-remove m s q) ∙ second)) one two
   where
-    by : (t : ℕ) (x : Kept) (c : Bool) → cond c None (get m t) ≡ Some x → get m t ≡ Some x
+    by : (t : ℕ) (x : MarkedSession) (c : Bool) → cond c None (get m t) ≡ Some x → get m t ≡ Some x
     by t x true e = absurd (none-some x e)
     by t x false e = e
 

@@ -8,7 +8,7 @@ use Rattle.odb_atoms.specs.Row.{Selector}
 pub record Stand : Type 0 where
   pub request : Request
   pub told : Option Filter
-  pub place : Option (ℕ × ℕ)
+  pub version : Option (ℕ × ℕ)
 
 -- in which notation, whether it is a first reply with all, and how many commits ago the client had what it asks, if that is found; and how it stands to each table
 pub record Likeness : Type 0 where

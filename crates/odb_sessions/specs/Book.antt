@@ -3,7 +3,7 @@ use Rattle.std.specs.Prelude.{ℕ, drop, []}
 use Rattle.std.specs.Ordering.{nat_cmp}
 use Rattle.odb_atoms.specs.FinMap.{FinMap, empty}
 use Rattle.odb_chain.specs.Chains.{Chains}
-use Rattle.odb_recent.specs.Kept.{kept_of}
+use Rattle.odb_recent.specs.Findable.{findable}
 use Rattle.odb_recent.specs.Recent.{Recent}
 use Rattle.odb_service.specs.Session.{Earlier, Revision, Session, nothing_earlier}
 use Rattle.odb_tables.specs.Database.{Db}
@@ -32,7 +32,7 @@ revision_in b = record { db = b.db; commits = b.commits; earlier = b.earlier }
 
 -- what can be found of earlier contents, where the database is this one now
 abbrev pub earlier_of : Db → Recent → Earlier
-earlier_of db r = record { run = r.run; most = r.most; contents = drop 1 (kept_of db r.undos) }
+earlier_of db r = record { run = r.run; most = r.most; contents = drop 1 (findable db r.undos) }
 
 -- with these last commits
 abbrev pub book_with : Db → Recent → Sessions → Book

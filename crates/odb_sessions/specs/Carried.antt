@@ -6,7 +6,7 @@ use Rattle.odb_schema.specs.Schema.{Schema}
 use Rattle.odb_service.specs.Server.{served_by}
 use Rattle.odb_service.specs.Service.{Service}
 use Rattle.odb_service.specs.Session.{Item, Session, renamed, say, shift, start, stopped, sync, Monitor, brought, leaves, no_result, take}
-use Rattle.odb_sessions.specs.Held.{Kept, Queued, Sessions, due, marks_of, plain, seen}
+use Rattle.odb_sessions.specs.Marked.{MarkedItem, MarkedSession, Sessions, due, marks_of, plain, seen}
 use Rattle.odb_sessions.specs.Represented.Origin.{granted}
 use Rattle.odb_sessions.specs.Tied.{AreLive, HasAll, KeepsContents, uses}
 use Rattle.odb_sessions.specs.Watches.{KeepsWatch}
@@ -39,7 +39,7 @@ module _ (h : Service) where
   used_up db (suc n) k [] ms = record { queue = []; monitors = first_brought db k ms }
   used_up db (suc n) k (i ∷ is) ms = used_up db n k is (leaves h db i ms)
 
--- the marks are live and counted, and no place is later than now
+-- the marks are live and counted, and no version is later than now
 abbrev pub IsReady : Chains → List Mark → Type 0
 IsReady k ms = IsNow k × HasAll k ms
 
@@ -66,18 +66,18 @@ last_finished zero is = None
 last_finished (suc n) is = option_and_then finished_in (slice_get is n)
 
 -- how many monitors begin with an item, and with these
-abbrev pub begins : Queued → ℕ
+abbrev pub begins : MarkedItem → ℕ
 begins (plain i) = 0
 begins (due d x) = 1
 
-abbrev pub all_begin : List Queued → ℕ
+abbrev pub all_begin : List MarkedItem → ℕ
 all_begin [] = 0
 all_begin (q ∷ qs) = begins q + all_begin qs
 
 -- the session is carried so far, and its marks and the chains with it; where it isn't open nothing changes
 abbrev pub IsCarriedOut : Chains → Chains → Sessions → Sessions → ℕ → ℕ → ℕ → Type 0
 IsCarriedOut old new m then s n k =
-    ((x : Kept) → get m s ≡ Some x → (y : Kept) × (then ≡ insert m s y) × Carries old new (marks_of x) (marks_of y) × ((schema : Schema) → seen y ≡ used_by (served_by schema) old.db n k (seen x)) × KeepsWatch x y)
+    ((x : MarkedSession) → get m s ≡ Some x → (y : MarkedSession) × (then ≡ insert m s y) × Carries old new (marks_of x) (marks_of y) × ((schema : Schema) → seen y ≡ used_by (served_by schema) old.db n k (seen x)) × KeepsWatch x y)
     × (get m s ≡ None → (then ≡ m) × (new ≡ old))
 
 -- so many items and monitors are what a taking of the session uses up, if it is open

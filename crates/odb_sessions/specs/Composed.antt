@@ -13,7 +13,7 @@ use Rattle.odb_rpc.specs.Message.{notification}
 use Rattle.odb_rpc.specs.Since.{update3}
 use Rattle.odb_schema.specs.Json.{Data}
 use Rattle.odb_service.specs.Session.{Monitor, shapes}
-use Rattle.odb_sessions.specs.Held.{Held, Watched, monitor_of}
+use Rattle.odb_sessions.specs.Marked.{MarkedMonitor, Watched, monitor_of}
 use Rattle.odb_tables.specs.Database.{Db, table_at}
 
 -- what the client was told is kept, and it is a content of the table that is asked for
@@ -64,11 +64,11 @@ abbrev pub later_job : Notation → List Part → Job
 later_job n ps = record { notation = n; first = false; reply = false; parts = ps }
 
 -- the job of what the client of this monitor lacks
-abbrev pub owed_job : Db → Held → Job
+abbrev pub owed_job : Db → MarkedMonitor → Job
 owed_job db x = later_job x.notation (map (part_to db) x.tables)
 
 -- the job of a client's own tables: of its first reply, or of what it lacks
-abbrev pub own_job : Bool → Db → Held → Job
+abbrev pub own_job : Bool → Db → MarkedMonitor → Job
 own_job first db x = record { notation = x.notation; first = first; reply = first; parts = map (part_in first db) x.tables }
 
 abbrev pub first_job : Db → Notation → List Request → Job
@@ -91,7 +91,7 @@ abbrev pub resumed_updates : List Undo → Db → Notation → List Request → 
 resumed_updates us db n qs = table_updates n false (shapes qs) (shown false qs (delta (map (λ q. selected q (table_ago q.place us (table_at db q.place))) qs) (query db qs)))
 
 -- the text of the notification with these table updates, where this is the newest commit
-abbrev pub notified_text : Uuid → Held → Data → List ℕ
+abbrev pub notified_text : Uuid → MarkedMonitor → Data → List ℕ
 notified_text number x d = compact_text (elim x.since [ None ↦ notification (update_method x.notation) (x.id ∷ d ∷ []) | Some v ↦ update3 x.id number d ])
 
 -- ---- under other requests

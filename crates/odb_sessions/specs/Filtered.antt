@@ -5,7 +5,7 @@ use Rattle.odb_monitor.specs.Job.{Part}
 use Rattle.odb_monitor.specs.View.{selected}
 use Rattle.odb_request.specs.Request.{Request}
 use Rattle.odb_service.specs.Session.{filter_of}
-use Rattle.odb_sessions.specs.Held.{Watched}
+use Rattle.odb_sessions.specs.Marked.{Watched}
 use Rattle.odb_tables.specs.Database.{Db, table_at}
 
 -- filters by the names of their tables, in place of those that a monitor asks of these

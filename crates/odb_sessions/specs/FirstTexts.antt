@@ -4,7 +4,7 @@ use Rattle.std.specs.List.{All}
 use Rattle.odb_monitor.specs.Job.{Job}
 use Rattle.odb_request.specs.Request.{Notation, Request}
 use Rattle.odb_sessions.specs.Composed.{asked_of, first_job, composition}
-use Rattle.odb_sessions.specs.Held.{Held}
+use Rattle.odb_sessions.specs.Marked.{MarkedMonitor}
 use Rattle.odb_tables.specs.Database.{Db}
 
 -- the table updates of a first reply as text, and what was asked
@@ -21,7 +21,7 @@ abbrev pub AreFirstTexts : Db → List FirstText → Type 0
 AreFirstTexts db fs = All (IsFirstText db) fs
 
 -- a monitor asks so
-abbrev pub AsksSo : FirstText → Held → Type 0
+abbrev pub AsksSo : FirstText → MarkedMonitor → Type 0
 AsksSo f x = (f.notation ≡ x.notation) × (f.requests ≡ asked_of x.tables)
 
 -- the job is, where it is that of a first reply, one of this database

@@ -6,7 +6,7 @@ pub mod Committed
 pub mod Composed
 pub mod Filtered
 pub mod FirstTexts
-pub mod Held
+pub mod Marked
 pub mod Moved
 pub mod Named
 pub mod Newest

@@ -2,7 +2,7 @@
 use Rattle.std.specs.Prelude.{◌≡◌, ℕ, ◌+◌, List, map}
 use Rattle.odb_chain.specs.Chains.{Chains, IsNow, Mark, count, mark_of}
 use Rattle.odb_cond.specs.Filter.{Filter}
-use Rattle.odb_sessions.specs.Held.{Watched}
+use Rattle.odb_sessions.specs.Marked.{Watched}
 use Rattle.odb_service.specs.Session.{filter_of}
 use Rattle.odb_sessions.specs.Tied.{KeepsContents, uses}
 

@@ -4,7 +4,7 @@ use Rattle.odb_request.specs.Request.{Notation, Shape}
 use Rattle.odb_schema.specs.Json.{Data}
 use Rattle.odb_service.specs.Session.{Item, Session, Watch, at_first, drop_first, renamed, say, shapes, shift, start, stopped, sync}
 use Rattle.odb_sessions.specs.Asked.{is_same}
-use Rattle.odb_sessions.specs.Held.{Held, watch_of}
+use Rattle.odb_sessions.specs.Marked.{MarkedMonitor, watch_of}
 
 pub record Named : Type 0 where
   pub id : Data
@@ -14,7 +14,7 @@ pub record Named : Type 0 where
 abbrev pub named : Watch → Named
 named k = record { id = k.id; notation = k.notation; shapes = shapes k.requests }
 
-abbrev pub named_of : Held → Named
+abbrev pub named_of : MarkedMonitor → Named
 named_of h = named (watch_of h)
 
 abbrev pub under_id : Data → Named → Named

@@ -10,7 +10,7 @@ use Rattle.odb_request.specs.Request.{Request}
 use Rattle.odb_service.specs.Session.{Item, Session}
 use Rattle.odb_recent.specs.Recent.{recent_of}
 use Rattle.odb_sessions.specs.Book.{Book, book_with}
-use Rattle.odb_sessions.specs.Held.{Held, Sessions, Watched, all_seen}
+use Rattle.odb_sessions.specs.Marked.{MarkedMonitor, Sessions, Watched, all_seen}
 use Rattle.odb_sessions.specs.Quiet.{IsQuietAt}
 use Rattle.odb_sessions.specs.Tied.{IsTied}
 
@@ -27,10 +27,10 @@ abbrev pub addressed : List (ℕ × Item) → List ℕ
 addressed ps = map (λ p. p.0) ps
 
 -- of those who aren't in the new set nobody was in the old one, and nobody is one of these
-abbrev pub AreNoted : BTreeSet ℕ → BTreeSet ℕ → List ℕ → Type 0
-AreNoted old new ss = (s : ℕ) → contains nat_cmp new s ≡ false → (contains nat_cmp old s ≡ false) × (is_among s ss ≡ false)
+abbrev pub AreAdded : BTreeSet ℕ → BTreeSet ℕ → List ℕ → Type 0
+AreAdded old new ss = (s : ℕ) → contains nat_cmp new s ≡ false → (contains nat_cmp old s ≡ false) × (is_among s ss ≡ false)
 
--- what the machine sees of the chains and of what is kept of the sessions, as if there were no commits
+-- what the machine sees of the chains and of the sessions with their marks, as if there were no commits
 abbrev pub book_seen : Chains → Sessions → Book
 book_seen k m = book_with k.db (recent_of 0 0) (all_seen m)
 
@@ -53,7 +53,7 @@ interest_if (Some x) = interest_of x
 abbrev pub filter_asked : Watched → Asked
 filter_asked w = (w.request.place, w.request.filter)
 
-abbrev pub filters_asked : Held → List Asked
+abbrev pub filters_asked : MarkedMonitor → List Asked
 filters_asked h = map filter_asked h.tables
 
 abbrev pub table_of : Asked → ℕ

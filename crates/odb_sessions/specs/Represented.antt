@@ -3,11 +3,11 @@ pub mod Codes
 pub mod Composed
 pub mod Digest
 pub mod Ended
+pub mod Item
 pub mod Job
 pub mod Keyed
 pub mod LentSession
 pub mod Origin
 pub mod Out
-pub mod Queued
 pub mod Told
 pub mod Under

@@ -3,19 +3,19 @@ use Rattle.std.specs.Prelude.{◌≡◌, ℕ, ◌+◌, ◌<◌, ◌≤◌, List,
 use Rattle.odb_atoms.specs.FinMap.{entries_of, get}
 use Rattle.odb_chain.specs.Chains.{Chains, IsNow, Live, Mark, Standing, count, standing}
 pub use Rattle.odb_chain.specs.Marks.{AreLive, bit, is_at, uses}
-use Rattle.odb_sessions.specs.Held.{Kept, Sessions, marks_of}
+use Rattle.odb_sessions.specs.Marked.{MarkedSession, Sessions, marks_of}
 use Rattle.odb_sessions.specs.Watches.{AreAlike}
 
 -- the marks of all sessions are live
 abbrev pub AreAllLive : Chains → Sessions → Type 0
-AreAllLive k m = (s : ℕ) (x : Kept) → get m s ≡ Some x → AreLive k (marks_of x)
+AreAllLive k m = (s : ℕ) (x : MarkedSession) → get m s ≡ Some x → AreLive k (marks_of x)
 
 -- the sum of a weight over entries
 abbrev pub total : {X : Type 0} → (X → ℕ) → List (ℕ × X) → ℕ
 total w [] = 0
 total w (e ∷ es) = w e.1 + total w es
 
--- how many marks of sessions stand at a place of a table
+-- how many marks of sessions stand at a version of a table
 abbrev pub used : ℕ → ℕ → Sessions → ℕ
 used t p m = total (λ x. uses t p (marks_of x)) (entries_of m)
 
@@ -24,7 +24,7 @@ IsTied k m = IsNow k × ((t p : ℕ) → count k t p ≡ used t p m) × AreAllLi
 
 -- ---- marks that are lent
 
-abbrev pub entry_marks : ℕ × Kept → List Mark
+abbrev pub entry_marks : ℕ × MarkedSession → List Mark
 entry_marks e = marks_of e.1
 
 -- those of all sessions, by the sessions' numbers
@@ -55,7 +55,7 @@ HoldsContents old new = (t p : ℕ) (x : Standing) → standing old t p ≡ Some
 abbrev pub Adds : Chains → Chains → List Mark → Type 0
 Adds old new ms = (new.db ≡ old.db) × (new.versions ≡ old.versions) × (length new.live ≡ length old.live) × ((t p : ℕ) → count new t p ≡ count old t p + uses t p ms) × HoldsContents old new × AreLive new ms × IsNow new
 
--- how many marks are counted at all places of a table, and of these tables
+-- how many marks are counted at all versions of a table, and of these tables
 abbrev pub counted_at : Live → ℕ
 counted_at l = total (λ x. x.marks) (entries_of l)
 
@@ -63,7 +63,7 @@ abbrev pub counted_in : List Live → ℕ
 counted_in [] = 0
 counted_in (l ∷ ls) = counted_at l + counted_in ls
 
--- a list of places for each table
+-- a list of versions for each table
 abbrev pub HasLists : Chains → Type 0
 HasLists k = length k.live ≡ length k.db
 
@@ -71,6 +71,6 @@ HasLists k = length k.live ≡ length k.db
 abbrev pub HasRoom : Chains → ℕ → Type 0
 HasRoom k n = HasLists k × (counted_in k.live < n)
 
--- as many lists of places, and as many marks at all of them together
+-- as many lists of versions, and as many marks at all of them together
 abbrev pub KeepsRoom : Chains → Chains → Type 0
 KeepsRoom old new = (length new.live ≡ length old.live) × (counted_in new.live ≡ counted_in old.live)

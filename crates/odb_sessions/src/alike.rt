@@ -4,7 +4,7 @@ ghost use Rattle.std.specs.Arc.{arc_value};
 ghost use Rattle.std.specs.Bool.{Decides};
 ghost use Rattle.odb_cond.specs.Represented.Clause.{selector_of};
 ghost use Rattle.odb_sessions.specs.Alike.{asks_of};
-ghost use Rattle.odb_sessions.specs.Represented.Alike.{ago_in, bare_in, bare_likeness, filter_in, is_first, is_reply, place_in, told_in};
+ghost use Rattle.odb_sessions.specs.Represented.Alike.{ago_in, bare_in, bare_likeness, filter_in, is_first, is_reply, told_in, version_in};
 
 use crate::monitor::{Monitor, Watching};
 use crate::under::filter_under;
@@ -78,13 +78,13 @@ impl<'a> Way<'a> {
     }
 
     /// Returns at which change of which table the client was told, if it counts. O(1).
-    pub(crate) fn place(self, mark: &Mark) -> Option<(TableId, u64)>
-        ensures { result ≡ place_in self.entry mark.now }
+    pub(crate) fn version(self, mark: &Mark) -> Option<(TableId, u64)>
+        ensures { result ≡ version_in self.entry mark.now }
     {
         match self {
             Way::First => None,
-            Way::Asked => Some((mark.table(), mark.place())),
-            Way::Changed(_) => Some((mark.table(), mark.place())),
+            Way::Asked => Some((mark.table(), mark.version())),
+            Way::Changed(_) => Some((mark.table(), mark.version())),
             Way::Again(_, _) => None,
             Way::Since(_, _) => None,
         }
@@ -92,11 +92,11 @@ impl<'a> Way<'a> {
 }
 
 /// Returns whether both are the same change of the same table, or none.
-fn same_place(place: Option<(TableId, u64)>, other: Option<(TableId, u64)>) -> bool
-    ensures { Decides result (place ≡ other) }
+fn same_version(version: Option<(TableId, u64)>, other: Option<(TableId, u64)>) -> bool
+    ensures { Decides result (version ≡ other) }
 {
-    match (place, other) {
-        (Some(place), Some(other)) => place.1 == other.1 && place.0 == other.0,
+    match (version, other) {
+        (Some(version), Some(other)) => version.1 == other.1 && version.0 == other.0,
         (None, None) => true,
         _ => false,
     }
@@ -177,7 +177,7 @@ fn stand_alike<'a>(
 ) -> bool
     ensures { Decides result (bare_in way.entry table.now ≡ bare_in other_way.entry other.now) }
 {
-    same_place(way.place(&table.mark), other_way.place(&other.mark))
+    same_version(way.version(&table.mark), other_way.version(&other.mark))
         && same_told(way.told(table), other_way.told(other))
         && same_asked(&table.request, way, &other.request, other_way)
 }
@@ -223,7 +223,7 @@ impl Monitor {
     fn is_told_like(&self, way: Way<'_>, other: &Monitor, other_way: Way<'_>) -> bool
         ensures { Decides result ((self.now.notation ≡ other.now.notation) × (is_first way.entry ≡ is_first other_way.entry) × (ago_in way.entry ≡ ago_in other_way.entry)) }
     {
-        self.kind == other.kind
+        self.notation == other.notation
             && way.is_first() == other_way.is_first()
             && same_ago(way.ago(), other_way.ago())
     }

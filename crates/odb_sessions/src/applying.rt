@@ -8,9 +8,9 @@ ghost use Rattle.odb_service.specs.Session as model;
 ghost use Rattle.odb_service.specs.Session.{at_first, begun, changed, drop_first, has_id, leaves};
 ghost use Rattle.odb_sessions.specs.Asked.{is_same};
 ghost use Rattle.odb_sessions.specs.Carried.{Carries, IsReady, begins, finished_in, first_brought};
-ghost use Rattle.odb_sessions.specs.Held.{item_seen, marks_due, marks_in, monitor_of, watch_of};
+ghost use Rattle.odb_sessions.specs.Marked.{item_seen, marks_due, marks_in, monitor_of, watch_of};
 ghost use Rattle.odb_sessions.specs.Represented.Origin.{granted};
-ghost use Rattle.odb_sessions.specs.Represented.Queued.{filters_of, queued_of};
+ghost use Rattle.odb_sessions.specs.Represented.Item.{filters_of, marked_item_of};
 
 use crate::id::Id;
 use crate::item::{Changes, Item, Renamed, Shift, Stopped};
@@ -22,13 +22,13 @@ use std::sync::Arc;
 impl Item {
     /// Carries it out, and returns the text that stands in it, if one does.
     pub(crate) fn carry_out(self, monitors: &mut Vec<Monitor>, past: &mut Past) -> Option<Finished>
-        requires ready { IsReady past.old (marks_due (queued_of self) ++ flat_map marks_in monitors.old.items) }
-        requires room { vec_len monitors.old + begins (queued_of self) ≤ vec_capacity monitors.old }
-        ensures monitors { (s : Schema) → map monitor_of monitors.new.items ≡ leaves (served_by s) past.old.db (item_seen (queued_of self)) (map monitor_of monitors.old.items) }
-        ensures carried { Carries past.old past.new (marks_due (queued_of self) ++ flat_map marks_in monitors.old.items) (flat_map marks_in monitors.new.items) }
-        ensures few { vec_len monitors.new ≤ vec_len monitors.old + begins (queued_of self) }
+        requires ready { IsReady past.old (marks_due (marked_item_of self) ++ flat_map marks_in monitors.old.items) }
+        requires room { vec_len monitors.old + begins (marked_item_of self) ≤ vec_capacity monitors.old }
+        ensures monitors { (s : Schema) → map monitor_of monitors.new.items ≡ leaves (served_by s) past.old.db (item_seen (marked_item_of self)) (map monitor_of monitors.old.items) }
+        ensures carried { Carries past.old past.new (marks_due (marked_item_of self) ++ flat_map marks_in monitors.old.items) (flat_map marks_in monitors.new.items) }
+        ensures few { vec_len monitors.new ≤ vec_len monitors.old + begins (marked_item_of self) }
         ensures capacity { vec_capacity monitors.new ≡ vec_capacity monitors.old }
-        ensures text { option_map item_of result ≡ finished_in (item_seen (queued_of self)) }
+        ensures text { option_map item_of result ≡ finished_in (item_seen (marked_item_of self)) }
     {
         match self {
             Item::Say(said) => Some(said),

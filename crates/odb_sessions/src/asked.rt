@@ -5,8 +5,8 @@ ghost use Rattle.std.specs.List.{list_any};
 ghost use Rattle.odb_queue.specs.Represented.Item.{item_of};
 ghost use Rattle.odb_service.specs.Session.{at_first, drop_first, sync};
 ghost use Rattle.odb_sessions.specs.Asked.{asks_ids, is_same};
-ghost use Rattle.odb_sessions.specs.Held.{item_seen, plain};
-ghost use Rattle.odb_sessions.specs.Represented.Queued.{queued_of};
+ghost use Rattle.odb_sessions.specs.Marked.{item_seen, plain};
+ghost use Rattle.odb_sessions.specs.Represented.Item.{marked_item_of};
 
 use crate::id::Id;
 use crate::item::Item;
@@ -16,7 +16,7 @@ use std::alloc::{AllocError, Global};
 use std::sync::Arc;
 
 /// Returns the ids of these monitors.
-pub(crate) fn told(alloc: Global, monitors: &[Monitor]) -> Result<Vec<Arc<Id>>, AllocError>
+pub(crate) fn ids_of(alloc: Global, monitors: &[Monitor]) -> Result<Vec<Arc<Id>>, AllocError>
     ensures { IfOk result (λ ids. map arc_value ids.items ≡ map (λ h. h.id) monitors.now) }
 {
     let mut ids = Vec::with_capacity(alloc, monitors.len())?;
@@ -28,7 +28,7 @@ pub(crate) fn told(alloc: Global, monitors: &[Monitor]) -> Result<Vec<Arc<Id>>, 
 
 /// Does to the ids as asked what an item does. Where memory is refused some of it may be done.
 pub(crate) fn ask(ids: &mut Vec<Arc<Id>>, item: &Item) -> Result<(), AllocError>
-    ensures { OnOk result (map arc_value ids.new.items ≡ asks_ids (item_seen (queued_of item.now)) (map arc_value ids.old.items)) }
+    ensures { OnOk result (map arc_value ids.new.items ≡ asks_ids (item_seen (marked_item_of item.now)) (map arc_value ids.old.items)) }
 {
     match item {
         Item::Say(_) => Ok(()),
@@ -86,7 +86,7 @@ pub(crate) fn ending(
     ids: Vec<Arc<Id>>,
     reply: Finished,
 ) -> Result<Vec<Item>, AllocError>
-    ensures { IfOk result (λ items. map queued_of items.items ≡ map (λ i. plain (sync (arc_value i))) ids.items ++ plain (item_of reply) ∷ []) }
+    ensures { IfOk result (λ items. map marked_item_of items.items ≡ map (λ i. plain (sync (arc_value i))) ids.items ++ plain (item_of reply) ∷ []) }
 {
     let mut items = Vec::new(alloc);
     for id in ids {

@@ -2,8 +2,8 @@
 ghost use Rattle.std.specs.Prelude.{◌≡◌, ◌∷◌, [], false, map, IfOk};
 ghost use Rattle.odb_rpc.specs.Represented.Printable.{printable_data};
 ghost use Rattle.odb_service.specs.Session.{renamed, shift};
-ghost use Rattle.odb_sessions.specs.Held.{plain};
-ghost use Rattle.odb_sessions.specs.Represented.Queued.{filters_of, queued_of};
+ghost use Rattle.odb_sessions.specs.Marked.{plain};
+ghost use Rattle.odb_sessions.specs.Represented.Item.{filters_of, marked_item_of};
 ghost use Rattle.odb_wire.specs.Message.{has_left_out, id_of};
 ghost use Rattle.odb_wire.specs.Shown.{request_data};
 
@@ -27,7 +27,7 @@ pub struct Changing {
 impl Model for Changing {
     ghost use Rattle.std.specs.Arc.{arc_value};
     ghost use Rattle.odb_sessions.specs.Represented.Codes.{changing_code};
-    ghost use Rattle.odb_sessions.specs.Represented.Queued.{filters_of};
+    ghost use Rattle.odb_sessions.specs.Represented.Item.{filters_of};
     ghost use Rattle.odb_sessions.specs.Stopped as model;
 
     ghost Value = { model.Changing };
@@ -73,7 +73,7 @@ impl Changing {
 
     /// Returns the shift to the new filters, and then the reply.
     pub(crate) fn items(self, alloc: Global) -> Result<Vec<Item>, AllocError>
-        ensures { IfOk result (λ items. map queued_of items.items
+        ensures { IfOk result (λ items. map marked_item_of items.items
             ≡ plain (shift self.old self.filters) ∷ plain (renamed self.request self.old self.new self.filters) ∷ []) }
     {
         let Changing {

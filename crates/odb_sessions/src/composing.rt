@@ -38,7 +38,7 @@ pub struct Envelope {
     /// What stands before the composition.
     pub before: Vec<u8>,
     /// The place of the job.
-    pub job: usize,
+    pub place: usize,
     /// What stands after it.
     pub after: Vec<u8>,
 }
@@ -50,7 +50,7 @@ impl Envelope {
     {
         let Envelope {
             before,
-            job: _,
+            place: _,
             after,
         } = self;
         match body {

@@ -63,15 +63,15 @@ fn with_table<'a>(digest: u64, table: &'a Watching, way: Way<'a>) -> u64
     ensures { result ≡ spec.after_stand digest (stand_in way.entry table.now) }
 {
     let asked = mixed(digest, digest_in(table, way));
-    with_place(asked, way.place(&table.mark))
+    with_version(asked, way.version(&table.mark))
 }
 
 /// Mixes in at which change the client was told, if it counts.
-fn with_place(digest: u64, place: Option<(TableId, u64)>) -> u64
-    ensures { result ≡ spec.after_place digest place }
+fn with_version(digest: u64, version: Option<(TableId, u64)>) -> u64
+    ensures { result ≡ spec.after_version digest version }
 {
-    match place {
-        Some(place) => mixed(digest, place.1),
+    match version {
+        Some(version) => mixed(digest, version.1),
         None => digest,
     }
 }

@@ -2,8 +2,8 @@
 ghost use Rattle.std.specs.Prelude.{◌≡◌, ◌∷◌, [], false, map, IfOk};
 ghost use Rattle.odb_rpc.specs.Represented.Printable.{printable_data};
 ghost use Rattle.odb_service.specs.Session.{stopped, sync};
-ghost use Rattle.odb_sessions.specs.Held.{plain};
-ghost use Rattle.odb_sessions.specs.Represented.Queued.{queued_of};
+ghost use Rattle.odb_sessions.specs.Marked.{plain};
+ghost use Rattle.odb_sessions.specs.Represented.Item.{marked_item_of};
 ghost use Rattle.odb_wire.specs.Message.{has_left_out, id_of};
 ghost use Rattle.odb_wire.specs.Shown.{request_data};
 
@@ -23,7 +23,7 @@ pub(crate) fn stopping(
     id: Printable<'_>,
 ) -> Result<Vec<Item>, AllocError>
     requires { has_left_out (id_of (request_data request.now)) ≡ false }
-    ensures { IfOk result (λ items. map queued_of items.items
+    ensures { IfOk result (λ items. map marked_item_of items.items
         ≡ plain (sync (printable_data id.entry)) ∷ plain (stopped (request_data request.now) (printable_data id.entry)) ∷ []) }
 {
     let reply = Granted::new(alloc, request)?;

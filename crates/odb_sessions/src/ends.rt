@@ -114,12 +114,12 @@ impl Sessions {
     }
 }
 
-/// Notes as many commits, which replaced these. It can't be refused. What `odb_recent::Recent::note` costs for each.
-pub(crate) fn note_commits(recent: &mut Recent, undos: Vec<Undo>)
+/// Pushes as many commits, which replaced these. It can't be refused. What `odb_recent::Recent::push` costs for each.
+pub(crate) fn push_commits(recent: &mut Recent, undos: Vec<Undo>)
     requires { recent.old.commits + length undos.items < 2 ^ 64 }
     ensures { recent.new ≡ all_noted undos.items recent.old }
 {
     for undo in undos {
-        recent.note(undo);
+        recent.push(undo);
     }
 }

@@ -4,7 +4,7 @@ ghost use Rattle.std.specs.Arc.{arc_value};
 ghost use Rattle.odb_cond.specs.Filter as model;
 ghost use Rattle.odb_request.specs.Represented.Shape.{table_name};
 ghost use Rattle.odb_service.specs.Session.{filter_of};
-ghost use Rattle.odb_sessions.specs.Represented.Queued.{filters_of};
+ghost use Rattle.odb_sessions.specs.Represented.Item.{filters_of};
 
 use crate::item::Changes;
 use odb_cond::Filter;

@@ -9,7 +9,7 @@ ghost use Rattle.odb_sessions.specs.declared.way.Way.TheVariants as way;
 ghost use Rattle.odb_tables.specs.Database as model_db;
 
 use crate::monitor::{Monitor, Watching};
-use odb_request::{Kind, Request};
+use odb_request::{Notation, Request};
 use std::alloc::{AllocError, Global};
 use std::marker::Model;
 use std::sync::Arc;
@@ -18,16 +18,16 @@ use std::sync::Arc;
 const MOST_KEPT: usize = 8;
 
 /// The table updates of a first reply as text, and what was asked: until the database changes, whoever asks the same is
-/// told the same by it, if it is kept ([`Sessions::keep`](crate::Sessions::keep)).
+/// told the same by it, if it is kept ([`Sessions::add_first_text`](crate::Sessions::add_first_text)).
 #[derive(Drop)]
 pub struct FirstText {
-    kind: Kind,
+    notation: Notation,
     requests: Vec<Request>,
     text: Arc<Vec<u8>>,
 }
 
 impl Model for FirstText {
-    ghost use Rattle.odb_request.specs.Represented.Kind.{notation_of};
+    ghost use Rattle.odb_request.specs.Represented.Notation.{notation_of};
     ghost use Rattle.odb_sessions.specs.FirstTexts as model;
     ghost use Rattle.odb_sessions.specs.Represented.Codes.{first_text_code};
     ghost use Rattle.odb_sessions.specs.Represented.Composed.{bytes_of};
@@ -36,7 +36,7 @@ impl Model for FirstText {
 
     ghost coded = { first_text_code };
 
-    ghost view = { λ f. record { notation = notation_of f.kind; requests = f.requests.items; text = bytes_of f.text } };
+    ghost view = { λ f. record { notation = notation_of f.notation; requests = f.requests.items; text = bytes_of f.text } };
 }
 
 impl FirstText {
@@ -51,7 +51,7 @@ impl FirstText {
     {
         let requests = requests_of(alloc, monitor.tables.as_slice())?;
         Ok(FirstText {
-            kind: monitor.kind,
+            notation: monitor.notation,
             requests,
             text: text.clone()?,
         })
@@ -61,7 +61,8 @@ impl FirstText {
     fn serves(&self, monitor: &Monitor) -> bool
         ensures { OnTrue result (AsksSo self.now monitor.now) }
     {
-        self.kind == monitor.kind && ask_so(self.requests.as_slice(), monitor.tables.as_slice())
+        self.notation == monitor.notation
+            && ask_so(self.requests.as_slice(), monitor.tables.as_slice())
     }
 
     fn text(&self) -> &Arc<Vec<u8>>
@@ -138,9 +139,9 @@ impl FirstTexts {
         None
     }
 
-    /// Keeps a text more, and forgets all others where as many are kept as may be. Where memory is refused it isn't
+    /// Adds a text, and forgets all others where as many are kept as may be. Where memory is refused it isn't
     /// kept.
-    pub(crate) fn keep(&mut self, first: FirstText)
+    pub(crate) fn add(&mut self, first: FirstText)
         ensures { (db : model_db.Db) → IsFirstText db first → AreFirstTexts db self.old → AreFirstTexts db self.new }
     {
         if self.texts.len() >= MOST_KEPT {

@@ -49,14 +49,11 @@ impl Id {
         self.text.as_slice() == other.text.as_slice()
     }
 
-    /// Returns it, to be printed. O(n) for a text of n bytes.
-    pub(crate) fn printable(&self) -> Printable<'_>
-        ensures { printable_data result ≡ self.now }
+    /// Returns its compact text. O(1).
+    pub(crate) fn text(&self) -> &[u8]
+        ensures { result.now ≡ compact_text self.now }
     {
-        let Some(id) = Printable::of(&self.value) else {
-            unreachable!();
-        };
-        id
+        self.text.as_slice()
     }
 }
 

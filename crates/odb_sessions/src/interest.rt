@@ -3,7 +3,7 @@ ghost use Rattle.std.specs.Prelude.{◌≡◌, ◌++◌, ◌∷◌, [], flat_map
 ghost use Rattle.std.specs.Bool.{OnTrue};
 ghost use Rattle.std.specs.Option.{option_copied};
 ghost use Rattle.odb_interest.specs.Keys.{asked_at};
-ghost use Rattle.odb_sessions.specs.Held.{seen};
+ghost use Rattle.odb_sessions.specs.Marked.{seen};
 ghost use Rattle.odb_sessions.specs.Owed.{ForgetsOwed, IsPut, KeepsOthers, KeepsResting, filter_asked, filters_asked, interest_if, table_of};
 
 use crate::monitor::{Monitor, Watching};

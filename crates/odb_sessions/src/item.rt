@@ -2,8 +2,8 @@
 ghost use Rattle.std.specs.Prelude.{◌≡◌, is_some, option_map};
 ghost use Rattle.odb_service.specs.Session.{is_answer, label};
 ghost use Rattle.odb_sessions.specs.Carried.{finished_text};
-ghost use Rattle.odb_sessions.specs.Held.{item_seen, marks_due, marks_in};
-ghost use Rattle.odb_sessions.specs.Represented.Queued.{queued_of};
+ghost use Rattle.odb_sessions.specs.Marked.{item_seen, marks_due, marks_in};
+ghost use Rattle.odb_sessions.specs.Represented.Item.{marked_item_of};
 ghost use Rattle.odb_sessions.specs.Tied.{Frees, HasAll};
 ghost use Rattle.odb_sessions.specs.Watches.{watch_after};
 
@@ -81,7 +81,7 @@ pub struct Stopped {
 impl Item {
     /// Returns whether it is a reply to a request.
     pub(crate) fn is_reply(&self) -> bool
-        ensures { result ≡ is_answer (label (item_seen (queued_of self.now))) }
+        ensures { result ≡ is_answer (label (item_seen (marked_item_of self.now))) }
     {
         match self {
             Item::Say(said) => said.is_reply,
@@ -96,7 +96,7 @@ impl Item {
     /// Returns the number of what a session's monitors ask once it is carried out, where they had this: none, where it may
     /// change what they ask.
     pub(crate) fn watch_after(&self, watch: Option<Watch>) -> Option<Watch>
-        ensures { option_map (λ w. w.number) result ≡ watch_after (item_seen (queued_of self.now)) (option_map (λ w. w.number) watch) }
+        ensures { option_map (λ w. w.number) result ≡ watch_after (item_seen (marked_item_of self.now)) (option_map (λ w. w.number) watch) }
     {
         match self {
             Item::Say(_) => watch,
@@ -110,7 +110,7 @@ impl Item {
 
     /// Returns whether its text was finished when it was queued. O(1).
     pub fn is_finished(&self) -> bool
-        ensures { result ≡ is_some (finished_text (item_seen (queued_of self.now))) }
+        ensures { result ≡ is_some (finished_text (item_seen (marked_item_of self.now))) }
     {
         match self {
             Item::Say(_) => true,
@@ -124,8 +124,8 @@ impl Item {
 
     /// Gives its marks back.
     pub(crate) fn release(self, past: &mut Past)
-        requires { HasAll past.old (marks_due (queued_of self)) }
-        ensures { Frees past.old past.new (marks_due (queued_of self)) }
+        requires { HasAll past.old (marks_due (marked_item_of self)) }
+        ensures { Frees past.old past.new (marks_due (marked_item_of self)) }
     {
         match self {
             Item::Say(said) => drop(said),
@@ -151,7 +151,7 @@ impl FirstReply {
 
 impl Clone for Changes {
     ghost use Rattle.std.specs.Prelude.{◌≡◌};
-    ghost use Rattle.odb_sessions.specs.Represented.Queued.{filters_of};
+    ghost use Rattle.odb_sessions.specs.Represented.Item.{filters_of};
 
     ghost is_clone = { λ x y. filters_of y ≡ filters_of x };
 

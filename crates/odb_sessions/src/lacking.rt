@@ -8,7 +8,7 @@ ghost use Rattle.odb_monitor.specs.Job.{updates_of};
 ghost use Rattle.odb_rpc.specs.Represented.Shared.{after_updates};
 ghost use Rattle.odb_sessions.specs.Composed.{AreNow, IsKnown, all_asked_as, asked_of, later_job, notified_text, owed_job, own_job, part_to, resumed_job};
 ghost use Rattle.odb_sessions.specs.Filtered.{all_parts_again};
-ghost use Rattle.odb_sessions.specs.Held.{marks_in};
+ghost use Rattle.odb_sessions.specs.Marked.{marks_in};
 ghost use Rattle.odb_sessions.specs.Represented.Alike.{stand_in};
 ghost use Rattle.odb_sessions.specs.Represented.Composed.{IsFrame};
 ghost use Rattle.odb_sessions.specs.Represented.Job.{AreRefiltered, asked_by, filters_by};
@@ -82,7 +82,7 @@ impl Monitor {
         let tables = self.tables.as_slice();
         let owed = all_owed(alloc, tables)?;
         let parts = parts_of(alloc, chains, owed.as_slice(), first)?;
-        Ok(odb_monitor::Job::new(self.kind, first, parts))
+        Ok(odb_monitor::Job::new(self.notation, first, parts))
     }
 
     /// Returns a job of what its client lacks, of those tables alone of which it may lack something: as much is sent as by the
@@ -98,7 +98,7 @@ impl Monitor {
     {
         let tables = self.tables.as_slice();
         let parts = parts_lacking(alloc, chains, tables)?;
-        Ok(odb_monitor::Job::new(self.kind, false, parts))
+        Ok(odb_monitor::Job::new(self.notation, false, parts))
     }
 
     /// Returns the job of what its client lacks, as if these were its requests. The costs are those of `own_job`. An error says
@@ -117,7 +117,7 @@ impl Monitor {
         let tables = self.tables.as_slice();
         let owed = all_owed_as(alloc, tables, requests)?;
         let parts = parts_of(alloc, chains, owed.as_slice(), false)?;
-        Ok(odb_monitor::Job::new(self.kind, false, parts))
+        Ok(odb_monitor::Job::new(self.notation, false, parts))
     }
 
     /// Returns the job of what its client lacks, as if these were its requests, where it was told of its tables as they
@@ -135,7 +135,7 @@ impl Monitor {
             ≡ later_job self.now.notation (all_parts_again chains.now.db (filters_in told.entry) self.now.tables requests.now)) }
     {
         let parts = parts_again(alloc, chains, self.tables.as_slice(), told, requests)?;
-        Ok(odb_monitor::Job::new(self.kind, false, parts))
+        Ok(odb_monitor::Job::new(self.notation, false, parts))
     }
 
     /// Makes the job of the reply to a client that has what it selected so many commits ago. For each table the costs are those
@@ -152,7 +152,7 @@ impl Monitor {
             ≡ resumed_job (take ago recent.now.undos) chains.now.db self.now.notation (asked_of self.now.tables)) }
     {
         let parts = parts_since(alloc, chains, self.tables.as_slice(), recent, ago)?;
-        Ok(odb_monitor::Job::resumed(self.kind, parts))
+        Ok(odb_monitor::Job::resumed(self.notation, parts))
     }
 
     /// Returns whether its client was told of its tables as they are now, under what is asked. `false` says nothing. O(n) for n
@@ -179,13 +179,17 @@ impl Monitor {
         &self,
         alloc: Global,
         number: Uuid,
-        job: usize,
+        place: usize,
     ) -> Result<Envelope, AllocError>
-        ensures { IfOk result (λ message. IsFrame message job (notified_text (uuid_of number) self.now)) }
+        ensures { IfOk result (λ message. IsFrame message place (notified_text (uuid_of number) self.now)) }
     {
         let before = self.before_updates(alloc, number)?;
         let after = Vec::from_slice(alloc, after_updates())?;
-        Ok(Envelope { before, job, after })
+        Ok(Envelope {
+            before,
+            place,
+            after,
+        })
     }
 
     /// Makes what stands before table updates in a notification to its client.
@@ -194,8 +198,8 @@ impl Monitor {
             → text.items ++ (compact_text d ++ after_updates) ≡ notified_text (uuid_of number) self.now d) }
     {
         match self.since {
-            None => before_updates(alloc, self.kind, self.id.printable()),
-            Some(_) => before_update3(alloc, self.id.printable(), number),
+            None => before_updates(alloc, self.notation, self.id.text()),
+            Some(_) => before_update3(alloc, self.id.text(), number),
         }
     }
 }
@@ -274,7 +278,7 @@ impl Watching {
         if other.told.is_some() {
             return false;
         }
-        self.mark.place() == other.mark.place() && self.mark.table() == other.mark.table()
+        self.mark.version() == other.mark.version() && self.mark.table() == other.mark.table()
     }
 }
 

@@ -1,7 +1,7 @@
 //! Marks of sessions, which are lent one after the other: those of monitors, and of monitors whose first reply is due.
 ghost use Rattle.std.specs.Prelude.{OnOk, flat_map, map, ◌++◌, ◌≡◌};
-ghost use Rattle.odb_sessions.specs.Held.{marks_due, marks_in, marks_of, table_marks};
-ghost use Rattle.odb_sessions.specs.Represented.Queued.{queued_of};
+ghost use Rattle.odb_sessions.specs.Marked.{marks_due, marks_in, marks_of, table_marks};
+ghost use Rattle.odb_sessions.specs.Represented.Item.{marked_item_of};
 
 use crate::item::Item;
 use crate::monitor::{Monitor, Watching};
@@ -57,7 +57,7 @@ impl Queue {
 
 /// Adds the marks of an item.
 fn lend_item<'a>(item: &'a Item, marks: &mut Vec<&'a Mark>) -> Result<(), AllocError>
-    ensures { OnOk result (map (λ m. m.now) marks.new.items ≡ map (λ m. m.now) marks.old.items ++ marks_due (queued_of item.now)) }
+    ensures { OnOk result (map (λ m. m.now) marks.new.items ≡ map (λ m. m.now) marks.old.items ++ marks_due (marked_item_of item.now)) }
 {
     match item {
         Item::Say(_) => Ok(()),

@@ -6,7 +6,7 @@ ghost use Rattle.odb_chain.specs.Chains.{IsNow};
 ghost use Rattle.odb_atoms.specs.Represented.Atom.{uuid_of};
 ghost use Rattle.odb_sessions.specs.Asked.{is_same};
 ghost use Rattle.odb_sessions.specs.Composed.{AreTheirs};
-ghost use Rattle.odb_sessions.specs.Held.{marks_in, monitor_of, table_marks, watch_of};
+ghost use Rattle.odb_sessions.specs.Marked.{marks_in, monitor_of, table_marks, watch_of};
 ghost use Rattle.odb_sessions.specs.Represented.Digest.{request_digest};
 ghost use Rattle.odb_sessions.specs.Started.{AreOfTables};
 ghost use Rattle.odb_sessions.specs.Tied.{Adds, Frees, HasAll, counted_in};
@@ -14,7 +14,7 @@ ghost use Rattle.std.specs.Bool.{OnTrue};
 ghost use Rattle.odb_service.specs.Service.{Service};
 ghost use Rattle.odb_service.specs.Session.{brought, changed, refilter};
 ghost use Rattle.odb_sessions.specs.Moved.{Moves, all_now};
-ghost use Rattle.odb_sessions.specs.Represented.Queued.{filters_of};
+ghost use Rattle.odb_sessions.specs.Represented.Item.{filters_of};
 ghost use Rattle.odb_sessions.specs.Owed.{filter_asked};
 
 use crate::digest::request_digest;
@@ -26,7 +26,7 @@ use crate::past::Past;
 use odb_chain::{Chains, Mark};
 use odb_cond::Filter;
 use odb_interest::Asked;
-use odb_request::{Kind, Request};
+use odb_request::{Notation, Request};
 use std::alloc::{AllocError, Global};
 use std::marker::Model;
 use std::sync::Arc;
@@ -44,7 +44,7 @@ pub(crate) struct Watching {
 impl Model for Watching {
     ghost use Rattle.std.specs.Prelude.{option_map, ◌≡◌};
     ghost use Rattle.std.specs.Arc.{arc_value};
-    ghost use Rattle.odb_sessions.specs.Held as model;
+    ghost use Rattle.odb_sessions.specs.Marked as model;
     ghost use Rattle.odb_sessions.specs.Represented.Codes.{watched_code};
     ghost use Rattle.odb_sessions.specs.Represented.Digest.{request_digest};
     ghost use Rattle.odb_sessions.specs.Represented.Told.{told_under};
@@ -130,7 +130,7 @@ impl Watching {
 /// name commits.
 pub struct Monitor {
     pub(crate) id: Arc<Id>,
-    pub(crate) kind: Kind,
+    pub(crate) notation: Notation,
     pub(crate) tables: Vec<Watching>,
     pub(crate) since: Option<Uuid>,
 }
@@ -139,17 +139,17 @@ impl Model for Monitor {
     ghost use Rattle.std.specs.Prelude.{option_map};
     ghost use Rattle.std.specs.Arc.{arc_value};
     ghost use Rattle.odb_atoms.specs.Represented.Atom.{uuid_of};
-    ghost use Rattle.odb_request.specs.Represented.Kind.{notation_of};
+    ghost use Rattle.odb_request.specs.Represented.Notation.{notation_of};
     ghost use Rattle.odb_sessions.specs.Composed.{AreTheirs, asked_of};
-    ghost use Rattle.odb_sessions.specs.Held as model;
-    ghost use Rattle.odb_sessions.specs.Represented.Codes.{held_code};
+    ghost use Rattle.odb_sessions.specs.Marked as model;
+    ghost use Rattle.odb_sessions.specs.Represented.Codes.{marked_monitor_code};
     ghost use Rattle.odb_sessions.specs.Started.{AreApart};
 
-    ghost Value = { model.Held };
+    ghost Value = { model.MarkedMonitor };
 
-    ghost coded = { held_code };
+    ghost coded = { marked_monitor_code };
 
-    ghost view = { λ m. record { id = arc_value m.id; notation = notation_of m.kind; tables = m.tables.items; since = option_map uuid_of m.since } };
+    ghost view = { λ m. record { id = arc_value m.id; notation = notation_of m.notation; tables = m.tables.items; since = option_map uuid_of m.since } };
 
     ghost invariant = { λ m. AreTheirs m.tables.items × AreApart (asked_of m.tables.items) };
 }
@@ -191,7 +191,7 @@ impl Monitor {
     {
         let Monitor {
             id: _,
-            kind: _,
+            notation: _,
             tables,
             since: _,
         } = self;
@@ -277,7 +277,7 @@ impl Drop for Monitor {
     fn drop(self) {
         let Monitor {
             id: _,
-            kind: _,
+            notation: _,
             tables: _,
             since: _,
         } = self;

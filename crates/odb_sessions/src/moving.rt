@@ -6,7 +6,7 @@ ghost use Rattle.odb_cond.specs.Filter as model;
 ghost use Rattle.odb_service.specs.Session.{filter_of};
 ghost use Rattle.odb_sessions.specs.Composed.{asked_of};
 ghost use Rattle.odb_sessions.specs.Moved.{Moves, asked_under, brought_to, brought_under, told_now};
-ghost use Rattle.odb_sessions.specs.Represented.Queued.{filters_of};
+ghost use Rattle.odb_sessions.specs.Represented.Item.{filters_of};
 ghost use Rattle.odb_sessions.specs.Represented.Told.{told_under};
 ghost use Rattle.odb_sessions.specs.Started.{AreApart};
 ghost use Rattle.odb_sessions.specs.Tied.{HasAll};
@@ -21,6 +21,7 @@ use std::sync::Arc;
 impl Watching {
     /// Brings the client to what the table is now, under this filter, or under the one that is asked where there is
     /// none.
+    #[inline(always)]
     pub(crate) fn bring(&mut self, filter: Option<Arc<Filter>>, past: &mut Past)
         requires has { HasAll past.old (self.old.mark ∷ []) }
         requires now { IsNow past.old }

@@ -2,22 +2,22 @@
 ghost use Rattle.std.specs.Prelude.{◌≡◌, [], ◌∷◌, ◌++◌, find, map, position, IfOk, OnOk, bytes_eq};
 ghost use Rattle.std.specs.Arc.{arc_value};
 ghost use Rattle.std.specs.List.{list_any};
-ghost use Rattle.odb_request.specs.Represented.Kind.{notation_of};
+ghost use Rattle.odb_request.specs.Represented.Notation.{notation_of};
 ghost use Rattle.odb_service.specs.Session.{at_first, drop_first};
 ghost use Rattle.odb_sessions.specs.Asked.{is_same};
-ghost use Rattle.odb_sessions.specs.Held.{item_seen};
+ghost use Rattle.odb_sessions.specs.Marked.{item_seen};
 ghost use Rattle.odb_sessions.specs.Named.{asks_named, named_of, under_id};
-ghost use Rattle.odb_sessions.specs.Represented.Queued.{queued_of};
+ghost use Rattle.odb_sessions.specs.Represented.Item.{marked_item_of};
 
 use crate::id::Id;
 use crate::item::Item;
 use crate::monitor::Monitor;
-use odb_request::Kind;
+use odb_request::Notation;
 use std::alloc::{AllocError, Global};
 use std::marker::Model;
 use std::sync::Arc;
 
-/// A monitor as asked: its id, its kind and its tables, without filters.
+/// A monitor as asked: its id, its notation and its tables, without filters.
 #[derive(Drop)]
 pub struct Named<'a> {
     id: Arc<Id>,
@@ -63,11 +63,11 @@ impl<'a> Named<'a> {
     }
 
     /// Returns which call asked for it. O(1).
-    pub fn kind(&self) -> Kind
+    pub fn notation(&self) -> Notation
         ensures { notation_of result ≡ self.now.notation }
     {
         let monitor = self.monitor;
-        monitor.kind
+        monitor.notation
     }
 
     /// Returns whether a table of this name is one of its tables. O(n) comparisons of names for n tables.
@@ -94,7 +94,7 @@ pub(crate) fn all_named<'a>(
 
 /// Does to the monitors as asked what an item does. Where memory is refused some of it may be done.
 pub(crate) fn ask_of<'a>(named: &mut Vec<Named<'a>>, item: &'a Item) -> Result<(), AllocError>
-    ensures { OnOk result (named.new.items ≡ asks_named (item_seen (queued_of item.now)) named.old.items) }
+    ensures { OnOk result (named.new.items ≡ asks_named (item_seen (marked_item_of item.now)) named.old.items) }
 {
     match item {
         Item::Say(_) => Ok(()),

@@ -7,10 +7,10 @@ ghost use Rattle.odb_queue.specs.Represented.Item.{item_of};
 ghost use Rattle.odb_queue.specs.Represented.Post.{post_of};
 ghost use Rattle.odb_sessions.specs.Carried.{IsCarriedOut, IsReady, last_finished};
 ghost use Rattle.odb_chain.specs.Chains.{Chains};
-ghost use Rattle.odb_sessions.specs.Held.{Kept, all_seen, marks_of, seen};
+ghost use Rattle.odb_sessions.specs.Marked.{MarkedSession, all_seen, marks_of, seen};
 ghost use Rattle.odb_sessions.specs.Represented.LentSession.{lends_session};
-ghost use Rattle.odb_sessions.specs.Posts.{all_kept_posted, at_number, kept_unposted, newest_at, with_item, with_items, without_newest};
-ghost use Rattle.odb_sessions.specs.Represented.Queued.{queued_of};
+ghost use Rattle.odb_sessions.specs.Posts.{all_marked_posted, at_number, marked_unposted, newest_at, with_item, with_items, without_newest};
+ghost use Rattle.odb_sessions.specs.Represented.Item.{marked_item_of};
 ghost use Rattle.odb_sessions.specs.Tied.{IsTied, all_marks};
 ghost use Rattle.odb_sessions.specs.Watches.{AreAlike, IsWatchFor, Joins, with_watch};
 
@@ -36,7 +36,7 @@ pub struct Numbered {
 }
 
 impl Model for Numbered {
-    ghost use Rattle.odb_sessions.specs.Held as model;
+    ghost use Rattle.odb_sessions.specs.Marked as model;
     ghost use Rattle.odb_sessions.specs.Represented.Keyed.{IsKeyed, sessions_under};
     ghost use Rattle.odb_sessions.specs.Represented.Codes.{sessions_code};
 
@@ -118,6 +118,32 @@ impl Numbered {
         }
     }
 
+    /// Returns whether a session isn't open, or the clients of its monitors were brought to now since the last change. `false`
+    /// says nothing, and no contract speaks of it. O(log n) for n sessions.
+    pub(crate) fn is_brought(&self, number: SessionId, past: &Past) -> bool {
+        match self.get(number) {
+            Some(session) => session.is_brought(past),
+            None => true,
+        }
+    }
+
+    /// Returns those of these sessions that are open, and of which not all clients were brought to now since the last change. No
+    /// contract speaks of it. O(log n) for each, and n sessions.
+    pub(crate) fn late_among(
+        &self,
+        alloc: Global,
+        listed: &[SessionId],
+        past: &Past,
+    ) -> Result<Vec<SessionId>, AllocError> {
+        let mut late = Vec::new(alloc);
+        for session in listed {
+            if !self.is_brought(*session, past) {
+                late.push(*session)?;
+            }
+        }
+        Ok(late)
+    }
+
     /// Returns the first open session from this number on, and how many monitors it has. O(log n).
     pub(crate) fn first_from(&self, number: SessionId) -> Option<(SessionId, usize)>
         ensures { IfSome result (λ found. number ≤ found.0) }
@@ -132,8 +158,8 @@ impl Numbered {
         alloc: Global,
         posts: Vec<Post>,
     ) -> Result<Vec<SessionId>, AllocError>
-        ensures ok { IfOk result (λ posted_to. self.new ≡ all_kept_posted self.old (map post_of posts.items)) }
-        ensures back { IfOk result (λ posted_to. kept_unposted posted_to.items self.new ≡ self.old) }
+        ensures ok { IfOk result (λ posted_to. self.new ≡ all_marked_posted self.old (map post_of posts.items)) }
+        ensures back { IfOk result (λ posted_to. marked_unposted posted_to.items self.new ≡ self.old) }
         ensures err { OnErr result (self.new ≡ self.old) }
     {
         let mut posted_to = Vec::new(alloc);
@@ -153,8 +179,8 @@ impl Numbered {
         session: SessionId,
         items: Vec<Item>,
     ) -> Result<Vec<SessionId>, AllocError>
-        ensures ok { IfOk result (λ posted_to. self.new ≡ at_number (with_items (map queued_of items.items)) self.old session) }
-        ensures back { IfOk result (λ posted_to. kept_unposted posted_to.items self.new ≡ self.old) }
+        ensures ok { IfOk result (λ posted_to. self.new ≡ at_number (with_items (map marked_item_of items.items)) self.old session) }
+        ensures back { IfOk result (λ posted_to. marked_unposted posted_to.items self.new ≡ self.old) }
         ensures err { OnErr result (self.new ≡ self.old) }
     {
         let mut posted_to = Vec::new(alloc);
@@ -174,8 +200,8 @@ impl Numbered {
         session: SessionId,
         item: Item,
     ) -> Result<(), AllocError>
-        ensures ok { OnOk result (self.new ≡ at_number (with_item (queued_of item)) self.old session) }
-        ensures back { OnOk result (kept_unposted posted_to.new.items self.new ≡ kept_unposted posted_to.old.items self.old) }
+        ensures ok { OnOk result (self.new ≡ at_number (with_item (marked_item_of item)) self.old session) }
+        ensures back { OnOk result (marked_unposted posted_to.new.items self.new ≡ marked_unposted posted_to.old.items self.old) }
         ensures err { OnErr result (self.new ≡ self.old) }
         ensures posted_to { OnErr result (posted_to.new.items ≡ posted_to.old.items) }
     {
@@ -190,7 +216,7 @@ impl Numbered {
 
     /// Queues an item for a session. Where that isn't open, or memory is refused, the item comes back.
     pub(crate) fn hand(&mut self, session: SessionId, item: Item) -> Result<(), AllocFailed<Item>>
-        ensures ok { OnOk result (self.new ≡ at_number (with_item (queued_of item)) self.old session) }
+        ensures ok { OnOk result (self.new ≡ at_number (with_item (marked_item_of item)) self.old session) }
         ensures is_open { OnOk result (is_some (finite.get self.old session) ≡ true) }
         ensures err { OnErr result (self.new ≡ self.old) }
         ensures handed_back { IfErr result (λ refused. refused.value ≡ item) }
@@ -203,7 +229,7 @@ impl Numbered {
 
     /// Drops the newest item of each of these sessions' queues, that of the last session first.
     pub(crate) fn unpost(&mut self, posted_to: Vec<SessionId>)
-        ensures { self.new ≡ kept_unposted posted_to.items self.old }
+        ensures { self.new ≡ marked_unposted posted_to.items self.old }
     {
         let mut posted_to = posted_to;
         while let Some(session) = posted_to.pop() {
@@ -214,7 +240,7 @@ impl Numbered {
     /// Takes the newest item of a session's queue out, if the session is open and has one.
     pub(crate) fn take_newest(&mut self, session: SessionId) -> Option<Item>
         ensures sessions { self.new ≡ at_number without_newest self.old session }
-        ensures item { option_map queued_of result ≡ newest_at self.old session }
+        ensures item { option_map marked_item_of result ≡ newest_at self.old session }
     {
         let Some(of) = self.get_mut(session) else {
             return None;
@@ -230,7 +256,7 @@ impl Numbered {
         monitors: usize,
         past: &mut Past,
     ) -> Option<Finished>
-        requires { (x : Kept) → finite.get self.old session ≡ Some x → IsReady past.old (marks_of x) }
+        requires { (x : MarkedSession) → finite.get self.old session ≡ Some x → IsReady past.old (marks_of x) }
         ensures carried { IsCarriedOut past.old past.new self.old self.new session items monitors }
         ensures text { option_map item_of result ≡ option_and_then (λ x. last_finished items (seen x).queue) (finite.get self.old session) }
     {
@@ -338,7 +364,7 @@ impl Numbered {
 
     /// Returns the greatest of the numbers that sessions have; 0 where there is none.
     fn greatest_watch(&self) -> u64
-        ensures { (s n : ℕ) (x : Kept) → finite.get self.now s ≡ Some x → x.watch ≡ Some n → n ≤ result }
+        ensures { (s n : ℕ) (x : MarkedSession) → finite.get self.now s ≡ Some x → x.watch ≡ Some n → n ≤ result }
     {
         let mut greatest = 0;
         for (_, key) in self.keys.iter() {

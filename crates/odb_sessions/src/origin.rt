@@ -49,12 +49,16 @@ impl Origin {
 
     /// Returns the reply, with the result that is composed of the job. O(n) for an id of n bytes. An error says that memory was
     /// refused.
-    pub fn reply(&self, alloc: Global, job: usize) -> Result<Envelope, AllocError>
-        ensures { IfOk result (λ message. IsFrame message job (λ d. compact_text (reply (id_of self.now) d))) }
+    pub fn reply(&self, alloc: Global, place: usize) -> Result<Envelope, AllocError>
+        ensures { IfOk result (λ message. IsFrame message place (λ d. compact_text (reply (id_of self.now) d))) }
     {
         let before = self.before.clone()?;
         let after = Vec::from_slice(alloc, after_result())?;
-        Ok(Envelope { before, job, after })
+        Ok(Envelope {
+            before,
+            place,
+            after,
+        })
     }
 
     /// Makes the reply to who named a commit: whether that was found, the number of the newest commit, and what is
@@ -64,13 +68,17 @@ impl Origin {
         alloc: Global,
         found: bool,
         number: Uuid,
-        job: usize,
+        place: usize,
     ) -> Result<Envelope, AllocError>
-        ensures { IfOk result (λ message. IsFrame message job (λ d. compact_text (reply (id_of self.now) (since_result found (uuid_of number) d)))) }
+        ensures { IfOk result (λ message. IsFrame message place (λ d. compact_text (reply (id_of self.now) (since_result found (uuid_of number) d)))) }
     {
         let before = before_since(self.before.clone()?, found, number)?;
         let after = Vec::from_slice(alloc, after_updates())?;
-        Ok(Envelope { before, job, after })
+        Ok(Envelope {
+            before,
+            place,
+            after,
+        })
     }
 }
 

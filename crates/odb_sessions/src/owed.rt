@@ -38,7 +38,7 @@ pub(crate) struct Owed<'a> {
 
 impl<'a> Model for Owed<'a> {
     ghost use Rattle.std.specs.Prelude.{option_map};
-    ghost use Rattle.odb_sessions.specs.Held as model;
+    ghost use Rattle.odb_sessions.specs.Marked as model;
     ghost use Rattle.odb_sessions.specs.Represented.Codes.{watched_code};
     ghost use Rattle.odb_sessions.specs.Represented.Told.{told_under};
 

@@ -3,7 +3,7 @@ ghost use Rattle.std.specs.Prelude.{◌≡◌, [], ◌∷◌, map, IfErr, IfOk, 
 ghost use Rattle.odb_chain.specs.Chains.{IsLive, IsNow, absorbed, chains_of, released};
 ghost use Rattle.odb_sessions.specs.Composed.{AreTheirs};
 ghost use Rattle.odb_sessions.specs.FirstTexts.{AreFirstTexts, IsFirstText};
-ghost use Rattle.odb_sessions.specs.Held.{table_marks};
+ghost use Rattle.odb_sessions.specs.Marked.{table_marks};
 ghost use Rattle.odb_sessions.specs.Moved.{Moves, now_of};
 ghost use Rattle.odb_sessions.specs.Started.{AreOfTables};
 ghost use Rattle.odb_sessions.specs.Tied.{Adds, HasAll};
@@ -25,6 +25,8 @@ pub(crate) struct Past {
     chains: Chains,
     made: usize,
     firsts: FirstTexts,
+    /// How many changes were made or tried, modulo 2^64. No contract speaks of it.
+    changes: u64,
 }
 
 impl Model for Past {
@@ -53,7 +55,13 @@ impl Past {
             chains,
             made: 1,
             firsts: FirstTexts::new(alloc),
+            changes: 0,
         })
+    }
+
+    /// Returns how many changes were made or tried, modulo 2^64. O(1). No contract speaks of it.
+    pub(crate) fn changes(&self) -> u64 {
+        self.changes
     }
 
     /// Returns the database with its past. O(1).
@@ -70,12 +78,12 @@ impl Past {
         &self.firsts
     }
 
-    /// Keeps the text of a first reply.
-    pub(crate) fn keep(&mut self, first: FirstText)
+    /// Adds the text of a first reply to those that are kept.
+    pub(crate) fn add_first_text(&mut self, first: FirstText)
         requires { IsFirstText self.old.db first }
         ensures { self.new ≡ self.old }
     {
-        self.firsts.keep(first);
+        self.firsts.add(first);
     }
 
     /// Makes the whole change, or none, and then the change comes back.
@@ -87,13 +95,14 @@ impl Past {
         ensures now { IsNow self.new }
     {
         self.firsts.clear();
+        self.changes = self.changes.wrapping_add(1);
         self.chains.absorb(change)
     }
 
     /// Counts one mark less.
     pub(crate) fn release(&mut self, mark: Mark)
         requires { IsLive self.old mark }
-        ensures chains { self.new ≡ released mark.table mark.place self.old }
+        ensures chains { self.new ≡ released mark.table mark.version self.old }
         ensures now { IsNow self.new }
     {
         self.chains.release(mark);

@@ -3,9 +3,9 @@ ghost use Rattle.std.specs.Prelude.{◌≡◌, ◌++◌, true, [], ◌∷◌, fl
 ghost use Rattle.std.specs.Arc.{arc_value};
 ghost use Rattle.odb_service.specs.Session.{replies_in};
 ghost use Rattle.odb_sessions.specs.Asked.{ids_after};
-ghost use Rattle.odb_sessions.specs.Held.{item_seen, marks_due};
+ghost use Rattle.odb_sessions.specs.Marked.{item_seen, marks_due};
 ghost use Rattle.odb_sessions.specs.Named.{named_after};
-ghost use Rattle.odb_sessions.specs.Represented.Queued.{queued_of};
+ghost use Rattle.odb_sessions.specs.Represented.Item.{marked_item_of};
 ghost use Rattle.odb_sessions.specs.Tied.{Frees, HasAll};
 
 use crate::asked::ask;
@@ -29,17 +29,17 @@ impl Model for Queue {
     ghost use Rattle.std.specs.Prelude.{◌≡◌, List, map};
     ghost use Rattle.std.specs.Coded.{coded_list};
     ghost use Rattle.odb_service.specs.Session.{replies_in};
-    ghost use Rattle.odb_sessions.specs.Held.{Queued, item_seen};
-    ghost use Rattle.odb_sessions.specs.Represented.Codes.{queued_code};
-    ghost use Rattle.odb_sessions.specs.Represented.Queued.{queued_of};
+    ghost use Rattle.odb_sessions.specs.Marked.{MarkedItem, item_seen};
+    ghost use Rattle.odb_sessions.specs.Represented.Codes.{marked_item_code};
+    ghost use Rattle.odb_sessions.specs.Represented.Item.{marked_item_of};
 
-    ghost Value = { List Queued };
+    ghost Value = { List MarkedItem };
 
-    ghost coded = { coded_list queued_code };
+    ghost coded = { coded_list marked_item_code };
 
-    ghost view = { λ q. map queued_of q.items.items };
+    ghost view = { λ q. map marked_item_of q.items.items };
 
-    ghost invariant = { λ q. q.replies ≡ replies_in (map item_seen (map queued_of q.items.items)) };
+    ghost invariant = { λ q. q.replies ≡ replies_in (map item_seen (map marked_item_of q.items.items)) };
 }
 
 impl Queue {
@@ -69,7 +69,7 @@ impl Queue {
 
     /// Puts an item at the end. Where memory is refused it comes back.
     pub(crate) fn push(&mut self, item: Item) -> Result<(), AllocFailed<Item>>
-        ensures ok { OnOk result (self.new ≡ self.old ++ queued_of item ∷ []) }
+        ensures ok { OnOk result (self.new ≡ self.old ++ marked_item_of item ∷ []) }
         ensures err { OnErr result (self.new ≡ self.old) }
         ensures handed_back { IfErr result (λ refused. refused.value ≡ item) }
     {
@@ -83,7 +83,7 @@ impl Queue {
 
     /// Takes the earliest item out, if there is one. O(1).
     pub(crate) fn pop(&mut self) -> Option<Item>
-        ensures first { self.old ≡ option_to_list (option_map queued_of result) ++ self.new }
+        ensures first { self.old ≡ option_to_list (option_map marked_item_of result) ++ self.new }
         ensures none { IfNone result (self.old ≡ []) }
     {
         let item = self.items.pop_front()?;
@@ -95,7 +95,7 @@ impl Queue {
 
     /// Takes the newest item out, if there is one. O(1).
     pub(crate) fn pop_newest(&mut self) -> Option<Item>
-        ensures last { self.old ≡ self.new ++ option_to_list (option_map queued_of result) }
+        ensures last { self.old ≡ self.new ++ option_to_list (option_map marked_item_of result) }
         ensures none { IfNone result (self.old ≡ []) }
     {
         let item = self.items.pop_back()?;

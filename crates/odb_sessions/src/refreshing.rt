@@ -52,8 +52,8 @@ impl Refreshing {
     }
 }
 
-/// Moves the marks of a session to which nothing is owed to now, if it is open. O(log n) for n sessions, and what
-/// `odb_chain::Chains::advance` costs for each table of its monitors.
+/// Moves the marks of a session to which nothing is owed to now, if it is open. O(log n) for n sessions, and where there was a
+/// change since they were moved what `odb_chain::Chains::advance` costs for each table of its monitors.
 fn refresh(sessions: &mut Numbered, past: &mut Past, owed: &BTreeSet<SessionId>, session: SessionId)
     requires tied { IsTied past.old sessions.old }
     requires owed { AreOwed owed.now (book_seen past.old sessions.old) }
@@ -61,6 +61,9 @@ fn refresh(sessions: &mut Numbered, past: &mut Past, owed: &BTreeSet<SessionId>,
     ensures seen { book_seen past.new sessions.new ≡ book_seen past.old sessions.old }
 {
     if owed.contains(&session) {
+        return;
+    }
+    if sessions.is_brought(session, past) {
         return;
     }
     let monitors = sessions.monitors(session);

@@ -1,9 +1,9 @@
 //! Sessions that rest: nothing is owed to them, and the index of interest has what they ask. [P 10.1]
-ghost use Rattle.std.specs.Prelude.{◌≡◌, true, flat_map};
+ghost use Rattle.std.specs.Prelude.{◌≡◌, ◌+◌, ◌≤◌, true, flat_map, IfSome};
 ghost use Rattle.std.specs.Bool.{OnTrue};
 ghost use Rattle.std.specs.List.{All};
 ghost use Rattle.odb_sessions.specs.Composed.{AreNow};
-ghost use Rattle.odb_sessions.specs.Held.{marks_in, marks_of, seen};
+ghost use Rattle.odb_sessions.specs.Marked.{marks_in, marks_of, seen};
 ghost use Rattle.odb_sessions.specs.Quiet.{IsQuiet, IsQuietAt};
 ghost use Rattle.odb_sessions.specs.Tied.{AreLive};
 
@@ -28,9 +28,32 @@ impl Sessions {
         of.rests(self.past.chains())
     }
 
+    /// Forgets of the first `most` sessions, from this number on, that may be owed something those that rest, and returns the
+    /// first after them that may be owed something. O(log n) for n sessions, and what `forget_if_resting` costs, for each.
+    pub fn forget_resting(&mut self, from: SessionId, most: usize) -> Option<SessionId>
+        ensures same { self.new ≡ self.old }
+        ensures next { IfSome result (λ next. from + most ≤ next) }
+    {
+        let mut next = self.first_owed(from);
+        for looked in 0..most {
+            let session = next?;
+            self.forget_if_resting(session);
+            next = self.first_owed(session.checked_add(1)?);
+        }
+        next
+    }
+
+    /// Returns the first session from this number on that may be owed something. O(log n).
+    fn first_owed(&self, from: SessionId) -> Option<SessionId>
+        ensures { IfSome result (λ first. from ≤ first) }
+    {
+        let first = self.owed.range(from..).next()?;
+        Some(*first)
+    }
+
     /// Forgets that a session may be owed something, where it rests, and there is memory for what it asks in the
     /// index. What `Numbered::recognise` and `interest::cover` cost.
-    pub fn forget_if_resting(&mut self, session: SessionId)
+    fn forget_if_resting(&mut self, session: SessionId)
         ensures { self.new ≡ self.old }
     {
         if !self.owed.contains(&session) {

@@ -10,16 +10,16 @@ ghost use Rattle.odb_service.specs.Server.{served_by};
 ghost use Rattle.odb_service.specs.Session.{replies_in};
 ghost use Rattle.odb_sessions.specs.Asked.{ids_asked};
 ghost use Rattle.odb_sessions.specs.Carried.{Carries, IsReady, all_begin, begins, last_finished, used_by};
-ghost use Rattle.odb_sessions.specs.Held.{item_seen, marks_in, marks_of, nothing_kept, seen};
+ghost use Rattle.odb_sessions.specs.Marked.{empty_session, item_seen, marks_in, marks_of, seen};
 ghost use Rattle.odb_sessions.specs.Named.{named_asked};
 ghost use Rattle.odb_sessions.specs.Posts.{newest, with_item, without_newest};
-ghost use Rattle.odb_sessions.specs.Represented.Queued.{queued_of};
+ghost use Rattle.odb_sessions.specs.Represented.Item.{marked_item_of};
 ghost use Rattle.odb_sessions.specs.Tied.{Frees, HasAll};
 ghost use Rattle.odb_sessions.specs.Watches.{KeepsWatch};
 ghost use Rattle.odb_wire.specs.Shown.{request_data};
 
 use crate::applying::bring_first;
-use crate::asked::told;
+use crate::asked::ids_of;
 use crate::id::Id;
 use crate::item::Item;
 use crate::monitor::Monitor;
@@ -44,17 +44,20 @@ pub struct Session {
     pub(crate) queue: Queue,
     pub(crate) monitors: Vec<Monitor>,
     pub(crate) watch: Option<Watch>,
+    /// How many changes there were when the clients of all its monitors were last brought to now, of those that
+    /// [`Past::changes`] counts. No contract speaks of it.
+    pub(crate) brought: u64,
 }
 
 impl Model for Session {
     ghost use Rattle.std.specs.Prelude.{◌+◌, ◌≤◌, option_map, vec_capacity, vec_len};
     ghost use Rattle.odb_sessions.specs.Carried.{all_begin};
-    ghost use Rattle.odb_sessions.specs.Held as model;
-    ghost use Rattle.odb_sessions.specs.Represented.Codes.{kept_code};
+    ghost use Rattle.odb_sessions.specs.Marked as model;
+    ghost use Rattle.odb_sessions.specs.Represented.Codes.{marked_session_code};
 
-    ghost Value = { model.Kept };
+    ghost Value = { model.MarkedSession };
 
-    ghost coded = { kept_code };
+    ghost coded = { marked_session_code };
 
     ghost view = { λ s. record { queue = s.queue; monitors = s.monitors.items; watch = option_map (λ w. w.number) s.watch } };
 
@@ -64,18 +67,19 @@ impl Model for Session {
 impl Session {
     /// Makes a session for which nothing is queued, and which has no monitors.
     pub(crate) fn new(alloc: Global) -> Session
-        ensures { result ≡ nothing_kept }
+        ensures { result ≡ empty_session }
     {
         Session {
             queue: Queue::new(alloc),
             monitors: Vec::new(alloc),
             watch: None,
+            brought: 0,
         }
     }
 
     /// Returns what is queued, the earliest first. O(1).
     pub fn items(&self) -> &VecDeque<Item>
-        ensures { map queued_of result.now.items ≡ self.now.queue }
+        ensures { map marked_item_of result.now.items ≡ self.now.queue }
     {
         &self.queue.items
     }
@@ -97,7 +101,7 @@ impl Session {
 
     /// Puts an item at the end of the queue. Where memory is refused it comes back.
     pub(crate) fn push(&mut self, item: Item) -> Result<(), AllocFailed<Item>>
-        ensures ok { OnOk result (self.new ≡ with_item (queued_of item) self.old) }
+        ensures ok { OnOk result (self.new ≡ with_item (marked_item_of item) self.old) }
         ensures err { OnErr result (self.new ≡ self.old) }
         ensures handed_back { IfErr result (λ refused. refused.value ≡ item) }
     {
@@ -110,7 +114,7 @@ impl Session {
     /// Takes the newest item of the queue out, if there is one.
     pub(crate) fn take_newest(&mut self) -> Option<Item>
         ensures session { self.new ≡ without_newest self.old }
-        ensures item { option_map queued_of result ≡ newest self.old.queue }
+        ensures item { option_map marked_item_of result ≡ newest self.old.queue }
     {
         self.queue.pop_newest()
     }
@@ -119,7 +123,7 @@ impl Session {
     pub(crate) fn asked(&self, alloc: Global) -> Result<Vec<Arc<Id>>, AllocError>
         ensures { IfOk result (λ ids. map arc_value ids.items ≡ ids_asked (seen self.now)) }
     {
-        let mut ids = told(alloc, self.monitors.as_slice())?;
+        let mut ids = ids_of(alloc, self.monitors.as_slice())?;
         self.queue.ask(&mut ids)?;
         Ok(ids)
     }
@@ -181,7 +185,15 @@ impl Session {
     {
         let text = self.use_up(items, past);
         bring_first(&mut self.monitors, monitors, past);
+        let left = self.monitors.len().saturating_sub(monitors);
+        self.brought = brought_after(self.brought, left, past);
         text
+    }
+
+    /// Returns whether the clients of all its monitors were brought to now since the last change: then their marks need not
+    /// move. `false` says nothing, and no contract speaks of it. O(1).
+    pub(crate) fn is_brought(&self, past: &Past) -> bool {
+        self.brought == past.changes()
     }
 
     /// Gives the marks of its monitors back, and those of items that are queued.
@@ -193,10 +205,20 @@ impl Session {
             queue,
             monitors,
             watch: _,
+            brought: _,
         } = self;
         release_all(monitors, past);
         queue.release(past);
     }
+}
+
+/// Returns how many changes there were when the clients of all monitors were last brought to now, where those of all but so many
+/// just were.
+fn brought_after(before: u64, left: usize, past: &Past) -> u64 {
+    if left > 0 {
+        return before;
+    }
+    past.changes()
 }
 
 /// Makes room for the monitor that begins with the item, if one does, beside those that begin with what is queued.
@@ -204,7 +226,7 @@ fn make_room_for(item: &Item, queue: &Queue, monitors: &mut Vec<Monitor>) -> Res
     requires { vec_len monitors.old + all_begin queue.now ≤ vec_capacity monitors.old }
     ensures items { monitors.new.items ≡ monitors.old.items }
     ensures kept { vec_len monitors.new + all_begin queue.now ≤ vec_capacity monitors.new }
-    ensures room { OnOk result (vec_len monitors.new + (all_begin queue.now + begins (queued_of item.now)) ≤ vec_capacity monitors.new) }
+    ensures room { OnOk result (vec_len monitors.new + (all_begin queue.now + begins (marked_item_of item.now)) ≤ vec_capacity monitors.new) }
 {
     match item {
         Item::Say(_) => Ok(()),
@@ -246,6 +268,7 @@ impl Drop for Session {
             queue: _,
             monitors: _,
             watch: _,
+            brought: _,
         } = self;
     }
 }

@@ -20,7 +20,7 @@ ghost use Rattle.odb_sessions.specs.FirstTexts.{AreFirstTexts, IsFirstText};
 ghost use Rattle.odb_sessions.specs.Represented.Ended.{ending_of};
 ghost use Rattle.odb_tables.specs.Change.{Changes, all_changed_by};
 ghost use Rattle.odb_sessions.specs.Named.{named};
-ghost use Rattle.odb_sessions.specs.Owed.{AreNoted, AreOwed, addressed};
+ghost use Rattle.odb_sessions.specs.Owed.{AreAdded, AreOwed, addressed};
 ghost use Rattle.odb_sessions.specs.Posts.{all_posted, at_number, posted, unposted};
 ghost use Rattle.odb_sessions.specs.Started.{AreApart, AreOfTables, started};
 ghost use Rattle.odb_sessions.specs.Stopped.{changed_in, stopped_in};
@@ -34,7 +34,7 @@ use crate::asked::{ending, has};
 use crate::changing::Changing;
 use crate::ended::Ended;
 use crate::ending::stopping;
-use crate::ends::note_commits;
+use crate::ends::push_commits;
 use crate::first_texts::{FirstText, FirstTexts};
 use crate::id::Id;
 use crate::interest::forget_owed;
@@ -74,7 +74,7 @@ pub struct Sessions {
 impl Model for Sessions {
     ghost use Rattle.odb_sessions.specs.Book.{Book, book_with};
     ghost use Rattle.odb_sessions.specs.Represented.Codes.{book_code};
-    ghost use Rattle.odb_sessions.specs.Held.{all_seen};
+    ghost use Rattle.odb_sessions.specs.Marked.{all_seen};
     ghost use Rattle.odb_sessions.specs.Owed.{HangTogether};
 
     ghost Value = { Book };
@@ -202,7 +202,7 @@ impl Sessions {
         ensures back { IfOk result (λ posted_to. unposted posted_to.items self.new.sessions ≡ self.old.sessions) }
         ensures err { OnErr result (self.new ≡ self.old) }
     {
-        note_all(&mut self.owed, posts.as_slice())?;
+        add_addressed(&mut self.owed, posts.as_slice())?;
         self.sessions.post_all(self.alloc, posts)
     }
 
@@ -413,11 +413,17 @@ impl Sessions {
         };
         let touched = self.interest.touched(&change)?;
         let concerned = touched.as_slice();
-        forget_owed(&mut self.interest, &self.owed, concerned);
-        refresh_each(&mut self.sessions, &mut self.past, &self.owed, concerned);
-        note_each(&mut self.owed, concerned)?;
+        let late = self.sessions.late_among(self.alloc, concerned, &self.past)?;
+        forget_owed(&mut self.interest, &self.owed, late.as_slice());
+        refresh_each(
+            &mut self.sessions,
+            &mut self.past,
+            &self.owed,
+            late.as_slice(),
+        );
+        add_each(&mut self.owed, concerned)?;
         self.past.absorb(change)?;
-        note_commits(&mut self.recent, undos);
+        push_commits(&mut self.recent, undos);
         self.refreshing
             .go_on(&mut self.sessions, &mut self.past, &self.owed);
         Ok(())
@@ -437,14 +443,14 @@ impl Sessions {
         closed.release(&mut self.past);
     }
 
-    /// Keeps the text of a first reply, if there is one, until the database changes: who asks the same is told the same by
-    /// it. Where memory is refused it isn't kept. O(1), and what letting eight texts go costs.
-    pub fn keep(&mut self, first: Option<FirstText>)
+    /// Adds the text of a first reply, if there is one, to those that are kept until the database changes: who asks the same
+    /// is told the same by it. Where memory is refused it isn't kept. O(1), and what letting eight texts go costs.
+    pub fn add_first_text(&mut self, first: Option<FirstText>)
         requires { IfSome first (IsFirstText self.old.db) }
         ensures { self.new ≡ self.old }
     {
         if let Some(first) = first {
-            self.past.keep(first);
+            self.past.add_first_text(first);
         }
     }
 
@@ -468,10 +474,10 @@ impl Sessions {
     }
 }
 
-/// Notes the sessions of these posts. Where memory is refused some of them are noted.
-fn note_all(owed: &mut BTreeSet<SessionId>, posts: &[Post]) -> Result<(), AllocError>
-    ensures kept { AreNoted owed.old owed.new [] }
-    ensures noted { OnOk result (AreNoted owed.old owed.new (addressed (map post_of posts.now))) }
+/// Adds the sessions of these posts to those that may be owed something. Where memory is refused some of them are added.
+fn add_addressed(owed: &mut BTreeSet<SessionId>, posts: &[Post]) -> Result<(), AllocError>
+    ensures kept { AreAdded owed.old owed.new [] }
+    ensures added { OnOk result (AreAdded owed.old owed.new (addressed (map post_of posts.now))) }
 {
     for post in posts {
         owed.insert(post.session)?;
@@ -479,10 +485,10 @@ fn note_all(owed: &mut BTreeSet<SessionId>, posts: &[Post]) -> Result<(), AllocE
     Ok(())
 }
 
-/// Notes these sessions. Where memory is refused some of them are noted.
-fn note_each(owed: &mut BTreeSet<SessionId>, sessions: &[SessionId]) -> Result<(), AllocError>
-    ensures kept { AreNoted owed.old owed.new [] }
-    ensures noted { OnOk result (AreNoted owed.old owed.new sessions.now) }
+/// Adds these sessions to those that may be owed something. Where memory is refused some of them are added.
+fn add_each(owed: &mut BTreeSet<SessionId>, sessions: &[SessionId]) -> Result<(), AllocError>
+    ensures kept { AreAdded owed.old owed.new [] }
+    ensures added { OnOk result (AreAdded owed.old owed.new sessions.now) }
 {
     for session in sessions {
         owed.insert(*session)?;

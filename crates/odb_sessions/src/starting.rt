@@ -3,9 +3,9 @@ ghost use Rattle.std.specs.Prelude.{◌≡◌, false, IfOk, OnErr, option_map};
 ghost use Rattle.odb_atoms.specs.Represented.Atom.{uuid_of};
 ghost use Rattle.odb_atoms.specs.Uuid.{uuid_from};
 ghost use Rattle.odb_chain.specs.Chains.{IsNow};
-ghost use Rattle.odb_request.specs.Represented.Kind.{notation_of};
+ghost use Rattle.odb_request.specs.Represented.Notation.{notation_of};
 ghost use Rattle.odb_rpc.specs.Represented.Printable.{printable_data};
-ghost use Rattle.odb_sessions.specs.Held.{item_seen, due, marks_in};
+ghost use Rattle.odb_sessions.specs.Marked.{item_seen, due, marks_in};
 ghost use Rattle.odb_sessions.specs.Started.{AreApart, AreOfTables, started};
 ghost use Rattle.odb_sessions.specs.Tied.{Adds};
 ghost use Rattle.odb_wire.specs.Message.{has_left_out, id_of};
@@ -16,7 +16,7 @@ use crate::item::FirstReply;
 use crate::monitor::Monitor;
 use crate::origin::Origin;
 use crate::past::Past;
-use odb_request::{Kind, Request};
+use odb_request::{Notation, Request};
 use odb_rpc::MonitorStart;
 use std::alloc::{AllocError, Global};
 use std::marker::Model;
@@ -28,7 +28,7 @@ use uuid::Uuid;
 pub struct Starting {
     origin: Origin,
     id: Arc<Id>,
-    kind: Kind,
+    notation: Notation,
     requests: Vec<Request>,
     since: Option<Uuid>,
 }
@@ -37,7 +37,7 @@ impl Model for Starting {
     ghost use Rattle.std.specs.Prelude.{option_map};
     ghost use Rattle.std.specs.Arc.{arc_value};
     ghost use Rattle.odb_atoms.specs.Represented.Atom.{uuid_of};
-    ghost use Rattle.odb_request.specs.Represented.Kind.{notation_of};
+    ghost use Rattle.odb_request.specs.Represented.Notation.{notation_of};
     ghost use Rattle.odb_sessions.specs.Represented.Codes.{starting_code};
     ghost use Rattle.odb_sessions.specs.Started as model;
 
@@ -47,7 +47,7 @@ impl Model for Starting {
 
     ghost view = { λ s. record {
       request = s.origin;
-      watch = record { id = arc_value s.id; notation = notation_of s.kind; requests = s.requests.items; since = option_map uuid_of s.since };
+      watch = record { id = arc_value s.id; notation = notation_of s.notation; requests = s.requests.items; since = option_map uuid_of s.since };
     } };
 }
 
@@ -63,7 +63,7 @@ impl Starting {
         requires { has_left_out (id_of (request_data request.now)) ≡ false }
         ensures { IfOk result (λ made. made ≡ record {
           request = request_data request.now;
-          watch = record { id = printable_data asked.entry.id; notation = notation_of asked.entry.kind; requests = requests.items; since = option_map uuid_from asked.entry.since };
+          watch = record { id = printable_data asked.entry.id; notation = notation_of asked.entry.notation; requests = requests.items; since = option_map uuid_from asked.entry.since };
         }) }
     {
         let origin = Origin::new(alloc, request)?;
@@ -71,7 +71,7 @@ impl Starting {
         Ok(Starting {
             origin,
             id,
-            kind: asked.kind,
+            notation: asked.notation,
             requests,
             since: identifier_of(asked.since),
         })
@@ -89,14 +89,14 @@ impl Starting {
         let Starting {
             origin,
             id,
-            kind,
+            notation,
             requests,
             since,
         } = self;
         let tables = past.watch(alloc, requests)?;
         let monitor = Monitor {
             id,
-            kind,
+            notation,
             tables,
             since,
         };
@@ -120,7 +120,7 @@ impl Drop for Starting {
         let Starting {
             origin: _,
             id: _,
-            kind: _,
+            notation: _,
             requests: _,
             since: _,
         } = self;

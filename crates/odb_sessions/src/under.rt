@@ -7,7 +7,7 @@ ghost use Rattle.odb_request.specs.Represented.Shape.{table_name};
 ghost use Rattle.odb_service.specs.Session.{filter_of, refilter};
 ghost use Rattle.odb_sessions.specs.Composed.{asked_of};
 ghost use Rattle.odb_sessions.specs.Filtered.{asked_under};
-ghost use Rattle.odb_sessions.specs.Represented.Queued.{filters_of};
+ghost use Rattle.odb_sessions.specs.Represented.Item.{filters_of};
 ghost use Rattle.odb_sessions.specs.Represented.Under.{filters_in};
 
 use crate::item::Changes;

@@ -2,7 +2,7 @@
 ghost use Rattle.std.specs.Prelude.{◌≡◌, IfSome, Some, map, vec_capacity, vec_len};
 ghost use Rattle.std.specs.Bool.{OnTrue};
 ghost use Rattle.odb_sessions.specs.Composed.{asked_of};
-ghost use Rattle.odb_sessions.specs.Held.{monitor_of};
+ghost use Rattle.odb_sessions.specs.Marked.{monitor_of};
 ghost use Rattle.odb_sessions.specs.Watches.{asking_in, asking_of};
 
 use crate::monitor::{Monitor, Watching};
@@ -144,7 +144,8 @@ impl Monitor {
     fn asks_as(&self, other: &Monitor) -> bool
         ensures { OnTrue result (asking_of (monitor_of self.now) ≡ asking_of (monitor_of other.now)) }
     {
-        self.kind == other.kind && same_requests(self.tables.as_slice(), other.tables.as_slice())
+        self.notation == other.notation
+            && same_requests(self.tables.as_slice(), other.tables.as_slice())
     }
 }
 

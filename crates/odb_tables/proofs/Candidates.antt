@@ -12,11 +12,11 @@ use Rattle.odb_atoms.proofs.FinMaps.{same_key}
 use Rattle.odb_tables.specs.Database.{Table}
 use Rattle.odb_tables.specs.Represented.Facet.{is_tag, is_tag_now}
 use Rattle.odb_tables.specs.Represented.Found.{Appends, Lists, is_there, passing, untouched}
-use Rattle.odb_tables.specs.Represented.Keeping.{LacksNothing, Suffices}
+use Rattle.odb_tables.specs.Represented.RowIndex.{LacksNothing, Suffices}
 use Rattle.odb_tables.specs.Represented.Overlay.{Touched, passes_now}
 use Rattle.odb_tables.specs.Represented.Pairs.{has}
 use Rattle.odb_tables.specs.declared.facet.Facet.{Facet}
-use Rattle.odb_tables.specs.declared.kept.Kept.{Kept}
+use Rattle.odb_tables.specs.declared.row_index.RowIndex.{RowIndex}
 use Rattle.odb_tables.proofs.Found.{matches-untouched}
 
 -- ---- what stands under a tag that each row has which passes
@@ -25,7 +25,7 @@ tag_there : (f : Facet) (p : Uuid → Row → Bool) (tag u : Uuid) → ((v : Uui
 tag_there f p tag u gives None e = absurd (true≢false (sym e))
 tag_there f p tag u gives (Some r) e = gives u r e
 
-pub under-Suffices : (k : Kept) (p : Uuid → Row → Bool) (tag : Uuid) (keys : List Uuid) → ((v : Uuid) (s : Row) → p v s ≡ true → is_tag k.facet tag s ≡ true)
+pub under-Suffices : (k : RowIndex) (p : Uuid → Row → Bool) (tag : Uuid) (keys : List Uuid) → ((v : Uuid) (s : Row) → p v s ≡ true → is_tag k.facet tag s ≡ true)
     → ((u : Uuid) → has k.pairs tag u ≡ true → list_any (eq_by_cmp uuid_cmp u) keys ≡ true) → IsDistinct (eq_by_cmp uuid_cmp) keys → (t : Table) → LacksNothing k t → Suffices keys p t
 under-Suffices k p tag keys gives all distinct t lacks = (distinct, λ u e. all u (lacks u tag (tag_there k.facet p tag u gives (finite.get t u) e)))
 

@@ -17,7 +17,7 @@ use Rattle.odb_atoms.proofs.FinMaps.{contains_key-keys, same_key}
 use Rattle.odb_atoms.proofs.FinSets.{contains-from_list}
 use Rattle.odb_atoms.proofs.Lists.{all_gives, any_gives, both, either}
 use Rattle.odb_cond.specs.Condition.{Clause, equal, holds, includes, relates}
-use Rattle.odb_tables.specs.Kept.{mentions}
+use Rattle.odb_tables.specs.Indexed.{mentions}
 use Rattle.odb_tables.specs.Represented.Facet.{identifier_in}
 
 -- what a set mentions is mentioned by what includes it

@@ -18,7 +18,7 @@ use Rattle.odb_cond.specs.declared.filter.Member.{Member}
 use Rattle.odb_cond.specs.declared.filter.Member.TheVariants.{Always}
 use Rattle.odb_cond.proofs.Filters as filters
 use Rattle.odb_tables.specs.Database.{Table}
-use Rattle.odb_tables.specs.Represented.Keeping.{Covers, KeepsKeys}
+use Rattle.odb_tables.specs.Represented.RowIndex.{Covers, KeepsKeys}
 use Rattle.odb_tables.specs.Represented.Overlay.{passes_now}
 
 -- ---- keys that are put into a set

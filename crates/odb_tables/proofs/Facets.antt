@@ -17,10 +17,10 @@ use Rattle.odb_atoms.proofs.Equal.{same_atom-itself, same_values-equal}
 use Rattle.odb_atoms.proofs.FinMaps.{contains_key-keys}
 use Rattle.odb_atoms.proofs.Lists.{both}
 use Rattle.odb_atoms.proofs.Values.{same_value-equal}
-use Rattle.odb_tables.specs.Kept.{cells_at, is_twin, mentions}
+use Rattle.odb_tables.specs.Indexed.{cells_at, is_twin, mentions}
 use Rattle.odb_tables.specs.Represented.Digest.{digest}
 use Rattle.odb_tables.specs.Represented.Facet.{identifier_in, is_tag}
-use Rattle.odb_tables.specs.Represented.Kept.{have_same_at}
+use Rattle.odb_tables.specs.Represented.RowTest.{have_same_at}
 use Rattle.odb_tables.specs.declared.facet.Facet.{Facet}
 use Rattle.odb_tables.specs.declared.facet.Facet.TheVariants.{Mentions, Values}
 use Rattle.odb_tables.proofs.Twins.{mentions-nothing, nothing_in, same_cells}
@@ -36,7 +36,7 @@ cell-same r s place e = same_value-equal _ _ e
 pub same-uuid : (t u : Uuid) → same_uuid t u ≡ true → t ≡ u
 same-uuid t u e = same_number-same t u ((unsigned_Decides t.number u.number).0 e)
 
--- ---- by what a row is kept
+-- ---- by what an index finds a row
 
 pub values-same : (f : Facet) (keys : RandomState) (places : Vec ℕ Global) (r s : Row) → f ≡ Values keys places → list_all (have_same_at r s) places.items ≡ true → (tag : Uuid) → is_tag f tag r ≡ is_tag f tag s
 values-same f keys places r s is same tag = subst (λ g. is_tag g tag r ≡ is_tag g tag s) (sym is) (ap (λ vs. same_uuid tag (digest keys vs)) (cells-same r s places.items same))

@@ -15,7 +15,7 @@ use Rattle.odb_atoms.proofs.FinMaps.{get-empty}
 use Rattle.odb_tables.specs.Database.{Db, Table, table_at}
 use Rattle.odb_tables.specs.Represented.Draft.{all_overlaid, ground, grounds, laid, overlaid}
 use Rattle.odb_tables.specs.Represented.Found.{Appends, Lists, passing, standing}
-use Rattle.odb_tables.specs.Represented.Keeping.{Suffices}
+use Rattle.odb_tables.specs.Represented.RowIndex.{Suffices}
 use Rattle.odb_tables.specs.Represented.Overlay.{Touched, passes_now}
 use Rattle.odb_tables.proofs.Candidates.{any_filter, distinct_filter}
 use Rattle.odb_tables.proofs.Found.{any-++, distinct-++, get-standing, matches, matches-untouched, parts-Lists}

@@ -14,7 +14,7 @@ use Rattle.odb_atoms.proofs.FinMaps.{get-combine, get-insert, same_key, same_map
 use Rattle.odb_tables.specs.Change.{Changes, after, all_changed_by, before, changed_by}
 use Rattle.odb_tables.specs.Database.{Db, Table}
 use Rattle.odb_tables.specs.Installing.{IsChangeOf}
-use Rattle.odb_tables.specs.Represented.Installed.{each_row, each_table, new_row, one_row, put_in, settled, taken_back, where_changed, with_row_at}
+use Rattle.odb_tables.specs.Represented.Installed.{each_row, each_table, new_row, one_row, put_in, replaced, taken_back, where_changed, with_row_at}
 use Rattle.std.specs.declared.sync.Arc.{Arc}
 use Rattle.odb_tables.specs.Represented.Overlay.{row_of}
 use Rattle.odb_tables.specs.Represented.Key.{keys_equivalent, uuid_cmp_total}
@@ -58,15 +58,15 @@ not-put t e old = as_it_is t e.0 ∙ ap (with_row_at t e.0) (put-old (finite.get
 pub not-taken : (t : Table) (e : Entry) → is_some (new_row e.1) ≡ false → t ≡ one_row taken_back t e
 not-taken t e old = as_it_is t e.0 ∙ ap (with_row_at t e.0) (taken-old (finite.get t e.0) e.1 old)
 
-pub not-settled : {Z : Type 0} (t : Table) (u : Uuid) (old : Option (Arc Row Z)) (new : Option Row) → is_some old ≡ false → t ≡ one_row settled t (u, (row_of old, new))
+pub not-settled : {Z : Type 0} (t : Table) (u : Uuid) (old : Option (Arc Row Z)) (new : Option Row) → is_some old ≡ false → t ≡ one_row replaced t (u, (row_of old, new))
 not-settled t u None new e = as_it_is t u
 not-settled t u (Some p) new e = absurd (true≢false e)
 
-pub settled-removed : {Z : Type 0} (t : Table) (u : Uuid) (old : Option (Arc Row Z)) → is_some old ≡ true → finite.remove t u ≡ one_row settled t (u, (row_of old, None))
+pub settled-removed : {Z : Type 0} (t : Table) (u : Uuid) (old : Option (Arc Row Z)) → is_some old ≡ true → finite.remove t u ≡ one_row replaced t (u, (row_of old, None))
 settled-removed t u None e = absurd (true≢false (sym e))
 settled-removed t u (Some p) e = refl
 
-pub settled-replaced : {Z : Type 0} (t : Table) (u : Uuid) (old : Option (Arc Row Z)) (q : Row) → is_some old ≡ true → with_row_at t u (option_map (λ _. q) (finite.get t u)) ≡ one_row settled t (u, (row_of old, Some q))
+pub settled-replaced : {Z : Type 0} (t : Table) (u : Uuid) (old : Option (Arc Row Z)) (q : Row) → is_some old ≡ true → with_row_at t u (option_map (λ _. q) (finite.get t u)) ≡ one_row replaced t (u, (row_of old, Some q))
 settled-replaced t u None q e = absurd (true≢false (sym e))
 settled-replaced t u (Some p) q e = refl
 
@@ -172,7 +172,7 @@ module _ (f : Option Row → Sides → Option Row) where
 
 -- ---- both parts are the change
 
-made : (r : Option Row) (d : Option Sides) → before r d ≡ r → where_changed settled (where_changed put_in r d) d ≡ after r d
+made : (r : Option Row) (d : Option Sides) → before r d ≡ r → where_changed replaced (where_changed put_in r d) d ≡ after r d
 made r None h = refl
 made r (Some (None, None)) h = sym h
 made r (Some (None, Some q)) h = refl
@@ -186,10 +186,10 @@ unmade r (Some (None, Some q)) h = h
 unmade r (Some (Some p, q)) h = refl
 
 module _ (t : Table) (c : Changes) (of : (u : Uuid) → before (finite.get t u) (finite.get c u) ≡ finite.get t u) where
-  table-made : each_row settled (each_row put_in t c) c ≡ changed_by t c
+  table-made : each_row replaced (each_row put_in t c) c ≡ changed_by t c
   table-made =
-      same (each_row settled (each_row put_in t c) c) (changed_by t c)
-      (λ q. get-each_row settled (each_row put_in t c) c q ∙ ap (λ r. where_changed settled r (finite.get c q)) (get-each_row put_in t c q) ∙ made (finite.get t q) (finite.get c q) (of q)
+      same (each_row replaced (each_row put_in t c) c) (changed_by t c)
+      (λ q. get-each_row replaced (each_row put_in t c) c q ∙ ap (λ r. where_changed replaced r (finite.get c q)) (get-each_row put_in t c q) ∙ made (finite.get t q) (finite.get c q) (of q)
       ∙ sym (get-combine uuid_cmp_total uuid_cmp-IsAntisymmetric after refl t c q))
 
   table-unmade : each_row taken_back t c ≡ t
@@ -198,7 +198,7 @@ module _ (t : Table) (c : Changes) (of : (u : Uuid) → before (finite.get t u) 
 tail_of : (t : Table) (ts : Db) (c : Changes) (cs : List Changes) → IsChangeOf (t ∷ ts) (c ∷ cs) → IsChangeOf ts cs
 tail_of t ts c cs h = (omega (arith, h.0), λ k. h.1 (suc k))
 
-pub all-made : (db : Db) (cs : List Changes) → IsChangeOf db cs → each_table settled (each_table put_in db cs) cs ≡ all_changed_by db cs
+pub all-made : (db : Db) (cs : List Changes) → IsChangeOf db cs → each_table replaced (each_table put_in db cs) cs ≡ all_changed_by db cs
 all-made [] cs h = refl
 all-made (t ∷ ts) [] h = absurd (omega (arith, h.0))
 all-made (t ∷ ts) (c ∷ cs) h = λ i. table-made t c (h.1 0 c refl) i ∷ all-made ts cs (tail_of t ts c cs h) i

@@ -9,7 +9,7 @@ mod Facets
 mod Found
 mod Grounds
 mod Installs
-mod Keepings
+mod KeptColumns
 pub mod KeyedMaps
 mod Keys
 pub mod Leading
@@ -18,6 +18,7 @@ pub mod Ordered
 mod Overlays
 mod PairSets
 mod PutChanges
+mod RowIndexes
 pub mod Selected
 mod Steps
 mod SameValues

@@ -13,10 +13,10 @@ use Rattle.odb_atoms.specs.declared.value.Entries.TheVariants as entries
 use Rattle.odb_atoms.proofs.Atoms.{atom_cmp-IsAntisymmetric}
 use Rattle.odb_atoms.proofs.FinMaps.{contains_key-keys, same_key}
 use Rattle.odb_atoms.proofs.Lists.{any-map, either}
-use Rattle.odb_tables.specs.Kept.{mentions}
+use Rattle.odb_tables.specs.Indexed.{mentions}
 use Rattle.odb_tables.specs.Represented.Entry.{element_mentions, pair_mentions}
 use Rattle.odb_tables.specs.Represented.Facet.{identifier_in}
-use Rattle.odb_tables.specs.Represented.Kept.{is_in}
+use Rattle.odb_tables.specs.Represented.RowTest.{is_in}
 
 -- ---- an entry
 

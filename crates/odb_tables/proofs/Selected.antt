@@ -18,7 +18,7 @@ use Rattle.odb_atoms.proofs.FinMaps.{same_key, same_map}
 use Rattle.odb_atoms.proofs.Lists.{Member}
 use Rattle.odb_tables.specs.Database.{Table}
 use Rattle.odb_tables.specs.Represented.Found.{passing}
-use Rattle.odb_tables.specs.Represented.Keeping.{Covers}
+use Rattle.odb_tables.specs.Represented.RowIndex.{Covers}
 use Rattle.odb_tables.specs.Represented.Key.{uuid_cmp_total}
 use Rattle.odb_tables.specs.Represented.Table.{entries_at, entry_at}
 use Rattle.odb_tables.proofs.Found.{distinct_found, get-passing, if_passes, matches}

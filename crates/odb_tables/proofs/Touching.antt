@@ -1,4 +1,4 @@
--- Rows that a draft touched: which tests the rows that are kept decide, and which rows stay apart.
+-- Rows that a draft touched: which tests the rows of an index decide, and which rows stay apart.
 use Rattle.std.proofs.Common.{◌≡◌, ◌⊎◌, ℕ, ◌+◌, ◌<◌, Bool, true, false, cond, List, length, map, take, get_or, Option, Some, None, option_and_then, is_some, refl, sym, ap, subst, ◌∙◌}
 use mathlib.Core.Bool.{true≢false}
 use mathlib.Core.Logic.{inl, inr}
@@ -16,15 +16,15 @@ use Rattle.odb_atoms.proofs.EachEntry.{get-entry}
 use Rattle.odb_atoms.proofs.FinMaps.{same_key}
 use Rattle.odb_atoms.proofs.Lists.{any-map, any_gives, either, gives_any}
 use Rattle.odb_tables.specs.Database.{Table}
-use Rattle.odb_tables.specs.Kept.{AlikeAt, cells_at}
+use Rattle.odb_tables.specs.Indexed.{AlikeAt, cells_at}
 use Rattle.odb_tables.specs.Represented.Facet.{HasTagsNow, is_tag_now}
 use Rattle.odb_tables.specs.Represented.Found.{passing}
-use Rattle.odb_tables.specs.Represented.Keeping.{IsOfSame, KeepsChanged, KeepsListed, Suffices}
-use Rattle.odb_tables.specs.Represented.Kept.{have_same_at}
+use Rattle.odb_tables.specs.Represented.RowIndex.{HasChanged, HasListed, IsOfSame, Suffices}
+use Rattle.odb_tables.specs.Represented.RowTest.{have_same_at}
 use Rattle.odb_tables.specs.Represented.Key.{uuid_cmp_total}
 use Rattle.odb_tables.specs.Represented.Overlay.{passes_now}
 use Rattle.odb_tables.specs.Represented.Pairs.{Grows}
-use Rattle.odb_tables.specs.declared.kept.Kept.{Kept}
+use Rattle.odb_tables.specs.declared.row_index.RowIndex.{RowIndex}
 use Rattle.odb_tables.proofs.Facets.{cells-same}
 use Rattle.odb_tables.proofs.Found.{get-passing}
 use Rattle.odb_tables.proofs.Twins.{of_entry, there}
@@ -68,16 +68,16 @@ module _ (p : Uuid → Row → Bool) (now : Table) where
           let w = any_gives (of_entry p now) (finite.entries_of now) f in
           sym e ∙ found w.0.0 (ap (passes_now p w.0.0) (get-entry uuid_cmp_total now w.0 w.1) ∙ w.2)
 
--- ---- what is kept
+-- ---- an index
 
-pub still-tagged : (k n : Kept) (u : Uuid) (o : Option Row) → IsOfSame k n → Grows k.pairs n.pairs → HasTagsNow k.facet k.pairs u o → HasTagsNow n.facet n.pairs u o
+pub still-tagged : (k n : RowIndex) (u : Uuid) (o : Option Row) → IsOfSame k n → Grows k.pairs n.pairs → HasTagsNow k.facet k.pairs u o → HasTagsNow n.facet n.pairs u o
 still-tagged k n u o same grown had tag e = grown tag u (had tag (ap (λ f. is_tag_now f tag o) (sym same.1) ∙ e))
 
 -- of the rows that a table has now those that are listed
 abbrev listed_of : List Uuid → Table → Table
 listed_of us now = passing (λ u r. list_any (eq_by_cmp uuid_cmp u) us) now
 
-pub keeps-changed : (k : Kept) (old now : Table) (us : List Uuid) → KeepsListed us k now → ((u : Uuid) → list_any (eq_by_cmp uuid_cmp u) us ≡ false → finite.get now u ≡ finite.get old u) → KeepsChanged k old now
+pub keeps-changed : (k : RowIndex) (old now : Table) (us : List Uuid) → HasListed us k now → ((u : Uuid) → list_any (eq_by_cmp uuid_cmp u) us ≡ false → finite.get now u ≡ finite.get old u) → HasChanged k old now
 keeps-changed k old now us keeps as_it_was = (listed_of us now, λ u. kept u (list_any (eq_by_cmp uuid_cmp u) us) refl, λ u. parts u (list_any (eq_by_cmp uuid_cmp u) us) refl)
   where
     all : (o : Option Row) → option_and_then (λ r. cond true (Some r) None) o ≡ o

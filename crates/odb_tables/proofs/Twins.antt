@@ -22,9 +22,9 @@ use Rattle.odb_atoms.proofs.EachEntry.{get-entry}
 use Rattle.odb_atoms.proofs.FinMaps.{get-empty, get-entries, same_key}
 use Rattle.odb_atoms.proofs.Lists.{Member, any-map, gives_any}
 use Rattle.odb_tables.specs.Database.{Table}
-use Rattle.odb_tables.specs.Kept.{cells_at, mentions}
+use Rattle.odb_tables.specs.Indexed.{cells_at, mentions}
 use Rattle.odb_tables.specs.Represented.Found.{Lists, passing}
-use Rattle.odb_tables.specs.Represented.Kept.{have_same_at, is_in}
+use Rattle.odb_tables.specs.Represented.RowTest.{have_same_at, is_in}
 use Rattle.odb_tables.specs.Represented.Key.{keys_equivalent, uuid_cmp_total}
 use Rattle.odb_tables.specs.Represented.Overlay.{passes_now}
 use Rattle.odb_tables.proofs.Found.{matches}

@@ -1,5 +1,6 @@
 -- Drafts: a database under a transaction, as it was and as it is now.
-use Rattle.std.specs.Prelude.{ℕ, List, refl, length, replicate, slice_get, slice_set, unwrap_or}
+use Rattle.std.specs.Prelude.{◌≡◌, ℕ, nat_eq, false, List, refl, length, replicate, slice_get, slice_set, unwrap_or, Some}
+use Rattle.std.specs.List.{list_any}
 use Rattle.std.specs.Coded.{Coded, code_by, coded×, coded_list}
 use Rattle.odb_atoms.specs.FinMap as map
 use Rattle.odb_atoms.specs.FinSet as set
@@ -32,3 +33,11 @@ with_row t u r d = record d { now = slice_set d.now t (map.insert (table_at d.no
 -- the row is taken out of the table
 abbrev pub without_row : ℕ → Uuid → Draft → Draft
 without_row t u d = record d { now = slice_set d.now t (map.remove (table_at d.now t) u); removed = slice_set d.removed t (set.insert (removed_at d t) u) }
+
+-- each row that the table had and has has the same in the column at the place
+abbrev pub KeepsColumn : Db → Db → ℕ → ℕ → Type 0
+KeepsColumn old now t p = (u : Uuid) (r s : Row) → map.get (table_at old t) u ≡ Some r → map.get (table_at now t) u ≡ Some s → slice_get r.columns p ≡ slice_get s.columns p
+
+-- a row has the same as the one in whose place it comes, but in the columns at these places
+abbrev pub IsSameBut : List ℕ → Row → Row → Type 0
+IsSameBut ps before row = (p : ℕ) → list_any (nat_eq p) ps ≡ false → slice_get before.columns p ≡ slice_get row.columns p

@@ -1,8 +1,8 @@
 pub mod Change
 pub mod Database
 pub mod Draft
+pub mod Indexed
 pub mod Installing
-pub mod Kept
 pub mod Matching
 pub mod Pending
 pub mod Represented

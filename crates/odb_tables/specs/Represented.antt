@@ -1,3 +1,4 @@
+pub mod ChangedColumns
 pub mod Counted
 pub mod Digest
 pub mod Draft
@@ -5,12 +6,12 @@ pub mod Entry
 pub mod Facet
 pub mod Found
 pub mod Installed
-pub mod Keeping
-pub mod Kept
 pub mod Key
 pub mod Keyed
 pub mod Overlay
 pub mod Pairs
 pub mod RowChange
+pub mod RowIndex
+pub mod RowTest
 pub mod Table
 pub mod TableChange

@@ -7,14 +7,14 @@ ghost use Rattle.odb_tables.specs.Change.{all_changed_by};
 ghost use Rattle.odb_tables.specs.Database as model;
 ghost use Rattle.odb_tables.specs.Database.{table_at};
 ghost use Rattle.odb_tables.specs.Installing.{IsChangeOf};
-ghost use Rattle.odb_tables.specs.Represented.Keeping.{AreKept, AreReady, IsKept, IsReady, Suffices};
-ghost use Rattle.odb_tables.specs.declared.kept.Side.TheVariants.{New, Old};
-ghost use Rattle.odb_tables.specs.Represented.Installed.{each_table, put_in, settled, taken_back};
+ghost use Rattle.odb_tables.specs.Represented.RowIndex.{AreIndexesOf, AreReady, IsIndexOf, IsReady, Suffices};
+ghost use Rattle.odb_tables.specs.declared.row_index.Side.TheVariants.{New, Old};
+ghost use Rattle.odb_tables.specs.Represented.Installed.{each_table, put_in, replaced, taken_back};
 
 use crate::change_set::ChangeSet;
-use crate::kept::{Kept, Side};
-use crate::kept_for::kept_for;
 use crate::key::Key;
+use crate::row_index::{RowIndex, Side};
+use crate::row_indexes::row_indexes_of;
 use crate::row_test::Test;
 use crate::table::Table;
 use crate::table_change::TableChange;
@@ -29,13 +29,13 @@ use uuid::Uuid;
 pub struct Db {
     hashing: RandomState,
     tables: Vec<Table>,
-    kept: Vec<Kept>,
+    indexes: Vec<RowIndex>,
 }
 
 impl Model for Db {
     ghost use Rattle.odb_tables.specs.Database as model;
     ghost use Rattle.odb_tables.specs.Database.{db_code};
-    ghost use Rattle.odb_tables.specs.Represented.Keeping.{AreKept};
+    ghost use Rattle.odb_tables.specs.Represented.RowIndex.{AreIndexesOf};
 
     ghost Value = { model.Db };
 
@@ -43,7 +43,7 @@ impl Model for Db {
 
     ghost view = { λ d. d.tables.items };
 
-    ghost invariant = { λ d. AreKept d.tables.items d.kept.items };
+    ghost invariant = { λ d. AreIndexesOf d.tables.items d.indexes.items };
 }
 
 impl Db {
@@ -54,13 +54,14 @@ impl Db {
         Ok(Db {
             hashing,
             tables: without_rows(alloc, tables, hashing)?,
-            kept: Vec::new(alloc),
+            indexes: Vec::new(alloc),
         })
     }
 
-    /// Makes a database of the schema's tables, all of them without rows, in which a table's rows are kept by each of
-    /// its `indexes` and by each column that refers to rows (RFC 7047, section 3.2), so that `Draft::has_new_twins`,
-    /// `Draft::referrers`, `Draft::matching`, `Draft::select` and `Rows::selected` needn't walk over them. O(the schema).
+    /// Makes a database of the schema's tables, all of them without rows, with a row index by each of a table's
+    /// `indexes` and by each column that refers to rows (RFC 7047, section 3.2), so that `Draft::has_new_twins`,
+    /// `Draft::referrers`, `Draft::matching`, `Draft::select` and `Rows::selected` needn't walk over the rows.
+    /// O(the schema).
     pub fn for_schema(
         alloc: Global,
         schema: &Schema,
@@ -71,7 +72,7 @@ impl Db {
         Ok(Db {
             hashing,
             tables: without_rows(alloc, schema.tables().len(), hashing)?,
-            kept: kept_for(alloc, schema, hashing)?,
+            indexes: row_indexes_of(alloc, schema, hashing)?,
         })
     }
 
@@ -99,8 +100,8 @@ impl Db {
         }
     }
 
-    /// Returns the keys of the table's rows that may pass the test, each of them once, if something is kept that tells
-    /// them. O(what is kept), O(log n) for the n rows of the table, and O(the keys).
+    /// Returns the keys of the table's rows that may pass the test, each of them once, if a row index tells them.
+    /// O(the row indexes), O(log n) for the n rows of the table, and O(the keys).
     pub(crate) fn candidates<T: Test>(
         &self,
         alloc: Global,
@@ -109,11 +110,11 @@ impl Db {
     ) -> Result<Option<Vec<Key>>, AllocError>
         ensures { IfOk result (λ found. IfSome found (λ keys. Suffices keys.items (T.passes test.now) (table_at self.now table))) }
     {
-        for kept in &self.kept {
-            if kept.table != table.place() {
+        for index in &self.indexes {
+            if index.table != table.place() {
                 continue;
             }
-            let found = kept.candidates(alloc, test)?;
+            let found = index.candidates(alloc, test)?;
             if found.is_some() {
                 return Ok(found);
             }
@@ -121,10 +122,10 @@ impl Db {
         Ok(None)
     }
 
-    /// Returns whether something is kept that tells the table's rows that may pass the test. O(what is kept).
+    /// Returns whether a row index tells the table's rows that may pass the test. O(the row indexes).
     pub(crate) fn tells<T: Test>(&self, table: TableId, test: &T) -> bool {
-        for kept in &self.kept {
-            if kept.table == table.place() && kept.tells(test) {
+        for index in &self.indexes {
+            if index.table == table.place() && index.tells(test) {
                 return true;
             }
         }
@@ -145,8 +146,8 @@ impl Db {
 
     /// Makes the whole change, or none: where memory is refused the database is as it was, and the change
     /// comes back. The old sides of the change have to be what the database has. O(rows changed), O(tables),
-    /// O(the values compared), and for each tag that a row gained or lost O(log n) for the n pairs that are kept
-    /// and, where it was lost, a search in the value.
+    /// O(the values compared), and for each tag that a row gained or lost O(log n) for the n pairs of a row
+    /// index and, where it was lost, a search in the value.
     pub fn install(&mut self, change: ChangeSet) -> Result<(), AllocFailed<ChangeSet>>
         requires { IsChangeOf self.old change }
         ensures ok { OnOk result (self.new ≡ all_changed_by self.old change) }
@@ -154,17 +155,17 @@ impl Db {
         ensures handed_back { IfErr result (λ refused. refused.value ≡ change) }
         ensures same_tables { length self.new ≡ length self.old }
     {
-        if note(&mut self.kept, change.tables()).is_err() {
-            cut(&mut self.kept, change.tables(), Side::New);
+        if add_new_tags(&mut self.indexes, change.tables()).is_err() {
+            cut(&mut self.indexes, change.tables(), Side::New);
             return Err(AllocFailed { value: change });
         }
         if put_in(&mut self.tables, change.tables()).is_err() {
             take_back(&mut self.tables, change.tables());
-            cut(&mut self.kept, change.tables(), Side::New);
+            cut(&mut self.indexes, change.tables(), Side::New);
             return Err(AllocFailed { value: change });
         }
-        cut(&mut self.kept, change.tables(), Side::Old);
-        settle(&mut self.tables, change.into_tables());
+        cut(&mut self.indexes, change.tables(), Side::Old);
+        replace_old_rows(&mut self.tables, change.into_tables());
         Ok(())
     }
 }
@@ -184,26 +185,26 @@ fn without_rows(
     Ok(list)
 }
 
-/// Keeps the rows that are new by the changes, and the changed ones under their new tags. Where memory is
+/// Adds to the indexes the tags that rows gain by the changes, those of new rows among them. Where memory is
 /// refused some of that is done.
-fn note(kept: &mut Vec<Kept>, changes: &[TableChange]) -> Result<(), AllocError>
-    ensures stay_kept { (db : model.Db) → AreKept db kept.old.items → AreKept db kept.new.items }
-    ensures ready { OnOk result ((db : model.Db) → IsChangeOf db changes.now → AreKept db kept.old.items
-        → AreReady db changes.now kept.new.items) }
+fn add_new_tags(indexes: &mut Vec<RowIndex>, changes: &[TableChange]) -> Result<(), AllocError>
+    ensures still { (db : model.Db) → AreIndexesOf db indexes.old.items → AreIndexesOf db indexes.new.items }
+    ensures ready { OnOk result ((db : model.Db) → IsChangeOf db changes.now → AreIndexesOf db indexes.old.items
+        → AreReady db changes.now indexes.new.items) }
 {
-    for place in 0..kept.len() {
-        note_one(&mut kept[place], changes)?;
+    for place in 0..indexes.len() {
+        add_new_tags_to(&mut indexes[place], changes)?;
     }
     Ok(())
 }
 
-fn note_one(kept: &mut Kept, changes: &[TableChange]) -> Result<(), AllocError>
-    ensures stays_kept { (db : model.Db) → IsKept db kept.old → IsKept db kept.new }
-    ensures ready { OnOk result ((db : model.Db) → IsChangeOf db changes.now → IsKept db kept.old
-        → IsReady db changes.now kept.new) }
+fn add_new_tags_to(index: &mut RowIndex, changes: &[TableChange]) -> Result<(), AllocError>
+    ensures still { (db : model.Db) → IsIndexOf db index.old → IsIndexOf db index.new }
+    ensures ready { OnOk result ((db : model.Db) → IsChangeOf db changes.now → IsIndexOf db index.old
+        → IsReady db changes.now index.new) }
 {
-    match change_of(changes, kept.table) {
-        Some(change) => kept.note(change),
+    match change_of(changes, index.table) {
+        Some(change) => index.add_new_tags(change),
         None => Ok(()),
     }
 }
@@ -216,25 +217,25 @@ fn change_of(changes: &[TableChange], table: usize) -> Option<&TableChange>
 }
 
 /// Takes out the pairs of the side of the changes that goes.
-fn cut(kept: &mut Vec<Kept>, changes: &[TableChange], side: Side)
-    ensures taken_back { side ≡ New → (db : model.Db) → IsChangeOf db changes.now → AreKept db kept.old.items
-        → AreKept db kept.new.items }
-    ensures settled { side ≡ Old → (db : model.Db) → IsChangeOf db changes.now → AreReady db changes.now kept.old.items
-        → AreKept (all_changed_by db changes.now) kept.new.items }
+fn cut(indexes: &mut Vec<RowIndex>, changes: &[TableChange], side: Side)
+    ensures taken_back { side ≡ New → (db : model.Db) → IsChangeOf db changes.now → AreIndexesOf db indexes.old.items
+        → AreIndexesOf db indexes.new.items }
+    ensures made { side ≡ Old → (db : model.Db) → IsChangeOf db changes.now → AreReady db changes.now indexes.old.items
+        → AreIndexesOf (all_changed_by db changes.now) indexes.new.items }
 {
-    for place in 0..kept.len() {
-        cut_one(&mut kept[place], changes, side);
+    for place in 0..indexes.len() {
+        cut_one(&mut indexes[place], changes, side);
     }
 }
 
-fn cut_one(kept: &mut Kept, changes: &[TableChange], side: Side)
-    ensures taken_back { side ≡ New → (db : model.Db) → IsChangeOf db changes.now → IsKept db kept.old
-        → IsKept db kept.new }
-    ensures settled { side ≡ Old → (db : model.Db) → IsChangeOf db changes.now → IsReady db changes.now kept.old
-        → IsKept (all_changed_by db changes.now) kept.new }
+fn cut_one(index: &mut RowIndex, changes: &[TableChange], side: Side)
+    ensures taken_back { side ≡ New → (db : model.Db) → IsChangeOf db changes.now → IsIndexOf db index.old
+        → IsIndexOf db index.new }
+    ensures made { side ≡ Old → (db : model.Db) → IsChangeOf db changes.now → IsReady db changes.now index.old
+        → IsIndexOf (all_changed_by db changes.now) index.new }
 {
-    match change_of(changes, kept.table) {
-        Some(change) => kept.cut(change, side),
+    match change_of(changes, index.table) {
+        Some(change) => index.cut(change, side),
         None => {}
     }
 }
@@ -264,13 +265,13 @@ fn take_back(tables: &mut Vec<Table>, changes: &[TableChange])
 }
 
 /// Replaces and removes the rows that aren't new by the changes.
-fn settle(tables: &mut Vec<Table>, changes: Vec<TableChange>)
+fn replace_old_rows(tables: &mut Vec<Table>, changes: Vec<TableChange>)
     requires { length changes.items ≡ length tables.old.items }
-    ensures { tables.new.items ≡ each_table settled tables.old.items changes.items }
+    ensures { tables.new.items ≡ each_table replaced tables.old.items changes.items }
 {
     let mut place = 0;
     for change in changes {
-        tables[place].settle(change);
+        tables[place].replace_old_rows(change);
         place += 1;
     }
 }
@@ -281,7 +282,7 @@ impl Drop for Db {
         let Db {
             hashing: _,
             tables: _,
-            kept: _,
+            indexes: _,
         } = self;
     }
 }

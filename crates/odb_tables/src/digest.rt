@@ -7,7 +7,7 @@ ghost use Rattle.odb_atoms.specs.Row.{cell, declared};
 ghost use Rattle.odb_atoms.specs.Uuid as model_uuid;
 ghost use Rattle.odb_atoms.specs.Uuid.{zero_uuid};
 ghost use Rattle.odb_cond.specs.Condition.{holds, holds_all};
-ghost use Rattle.odb_tables.specs.Kept.{cells_at};
+ghost use Rattle.odb_tables.specs.Indexed.{cells_at};
 ghost use Rattle.odb_tables.specs.Represented.Digest as spec;
 
 use crate::key::Key;

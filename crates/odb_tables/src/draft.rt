@@ -1,5 +1,5 @@
 //! Drafts: a database under a transaction. [P 6.3]
-ghost use Rattle.std.specs.Prelude.{◌≡◌, ◌<◌, false, length, map, IfOk, IfSome, IsPermutation, IsTrue, OnErr, OnOk, option_map, slice_get};
+ghost use Rattle.std.specs.Prelude.{◌≡◌, ◌<◌, false, true, is_some, Some, length, map, IfOk, IfSome, IsPermutation, IsTrue, OnErr, OnOk, option_map, slice_get};
 ghost use Rattle.std.specs.List.{IsDistinct, list_any};
 ghost use Rattle.std.specs.List.Sorted.{IsSortedByKey};
 ghost use Rattle.std.specs.Option.{option_copied};
@@ -16,22 +16,24 @@ ghost use Rattle.odb_tables.specs.Database as model;
 ghost use Rattle.odb_tables.specs.Database.{table_at};
 ghost use Rattle.odb_tables.specs.Represented.Draft.{ground, overlaid, touched_at};
 ghost use Rattle.odb_tables.specs.Represented.Found.{Appends, Lists, passing, untouched};
-ghost use Rattle.odb_tables.specs.Represented.Keeping.{Suffices};
+ghost use Rattle.odb_tables.specs.Represented.RowIndex.{Suffices};
 ghost use Rattle.odb_tables.specs.Represented.Overlay.{passes_now};
 ghost use Rattle.odb_tables.specs.Represented.Table.{entries_at, listed};
-ghost use Rattle.odb_tables.specs.Draft.{draft_of, removed_at, with_row, without_row};
+ghost use Rattle.odb_tables.specs.Draft.{IsSameBut, KeepsColumn, draft_of, removed_at, with_row, without_row};
 ghost use Rattle.odb_tables.specs.Installing.{IsChangeOf};
-ghost use Rattle.odb_tables.specs.Kept as kept;
+ghost use Rattle.odb_tables.specs.Indexed as indexed;
 ghost use Rattle.odb_tables.specs.Matching.{matching};
 ghost use Rattle.odb_tables.specs.Stamped.{stamped};
 
 use crate::change_set::ChangeSet;
+use crate::changed_columns::{ChangedColumns, may_change_at, none_changed};
 use crate::database::Db;
 use crate::ground::Ground;
 use crate::key::Key;
 use crate::overlay::{Overlay, all_changes, none_touched, overlay_at};
 use crate::pending::Pending;
 use crate::row_test::{Referrers, Test};
+use crate::stamp::Stamp;
 use crate::table::Table;
 use odb_atoms::Row;
 use odb_cond::Where;
@@ -52,12 +54,15 @@ pub struct Draft<'a> {
     base: &'a Db,
     under: &'a [Overlay],
     overlays: Vec<Overlay>,
+    /// Of each table, in which columns its rows may have changed.
+    changed: Vec<ChangedColumns>,
 }
 
 impl<'a> Model for Draft<'a> {
     ghost use Rattle.std.specs.Prelude.{◌≡◌, length, map};
     ghost use Rattle.odb_tables.specs.Draft as model;
     ghost use Rattle.odb_tables.specs.Draft.{draft_code};
+    ghost use Rattle.odb_tables.specs.Represented.ChangedColumns.{IsKept};
     ghost use Rattle.odb_tables.specs.Represented.Draft.{all_overlaid, grounds, taken_out};
 
     ghost Value = { model.Draft };
@@ -70,7 +75,7 @@ impl<'a> Model for Draft<'a> {
       removed = map taken_out d.overlays.items;
     } };
 
-    ghost invariant = { λ d. length d.overlays.items ≡ length (grounds d.base.now d.under.now) };
+    ghost invariant = { λ d. IsKept (grounds d.base.now d.under.now) d.overlays.items d.changed.items };
 }
 
 impl<'a> Draft<'a> {
@@ -79,11 +84,13 @@ impl<'a> Draft<'a> {
         ensures { IfOk result (λ draft. draft ≡ draft_of base.now) }
     {
         let overlays = none_touched(alloc, base.len(), base.hashing())?;
+        let changed = none_changed(alloc, base.len())?;
         Ok(Draft {
             alloc,
             base,
             under: &[],
             overlays,
+            changed,
         })
     }
 
@@ -94,11 +101,13 @@ impl<'a> Draft<'a> {
     {
         let base = pending.base();
         let overlays = none_touched(alloc, base.len(), base.hashing())?;
+        let changed = none_changed(alloc, base.len())?;
         Ok(Draft {
             alloc,
             base,
             under: pending.overlays(),
             overlays,
+            changed,
         })
     }
 
@@ -139,6 +148,13 @@ impl<'a> Draft<'a> {
             Some(ground) => ground.get(uuid),
             None => None,
         }
+    }
+
+    /// Returns whether the table had a row of an identifier when the draft was made. O(1).
+    fn was_there(&self, table: TableId, uuid: Uuid) -> bool
+        ensures { result ≡ is_some (finite.get (table_at self.now.old table) (uuid_of uuid)) }
+    {
+        self.before(table, uuid).is_some()
     }
 
     /// Returns the table as it was when the draft was made, if the database has it. O(1).
@@ -197,15 +213,50 @@ impl<'a> Draft<'a> {
         }
     }
 
-    /// Puts the row into the table, or in the place of the one that it has under the identifier. O(1), but
-    /// for growth. An error says that memory was refused; the draft is as it was then.
+    /// Returns whether it is certain that each row that the table had before and has now has the same in the column at the
+    /// place: no row of it was put that may differ there, and the rows of it that were put differ in 16 columns at most. O(1).
+    pub fn keeps(&self, table: TableId, place: usize) -> bool
+        ensures { IsTrue result → KeepsColumn self.now.old self.now.now table place }
+    {
+        !may_change_at(self.changed.as_slice(), table.place(), place)
+    }
+
+    /// Puts the row into the table, or in the place of the one that it has under the identifier. Where one was there before, no
+    /// column of the table counts as kept any more (`keeps`). O(1), but for growth. An error says that memory was refused;
+    /// the draft is as it was then.
     pub fn put(&mut self, table: TableId, uuid: Uuid, row: Row) -> Result<(), AllocError>
         requires { table < length self.old.old }
         ensures ok { OnOk result (self.new ≡ with_row table (uuid_of uuid) row self.old) }
         ensures err { OnErr result (self.new ≡ self.old) }
     {
+        let was_there = self.was_there(table, uuid);
         let row = Arc::new(self.alloc, row)?;
-        self.overlays[table.place()].put(uuid, Some(row))
+        self.overlays[table.place()].put(uuid, Some(row))?;
+        self.changed[table.place()].add_all_where(was_there);
+        Ok(())
+    }
+
+    /// Puts the row in the place of the one that the table has under the identifier, where they differ in the columns at
+    /// these places alone. O(the places), but for growth. An error says that memory was refused; the draft is as it was
+    /// then.
+    pub fn put_over(
+        &mut self,
+        table: TableId,
+        uuid: Uuid,
+        row: Row,
+        places: &[usize],
+    ) -> Result<(), AllocError>
+        requires table { table < length self.old.old }
+        requires others { (before : model_row.Row) → finite.get (table_at self.old.now table) (uuid_of uuid) ≡ Some before
+            → IsSameBut places.now before row }
+        requires there { is_some (finite.get (table_at self.old.now table) (uuid_of uuid)) ≡ true }
+        ensures ok { OnOk result (self.new ≡ with_row table (uuid_of uuid) row self.old) }
+        ensures err { OnErr result (self.new ≡ self.old) }
+    {
+        let row = Arc::new(self.alloc, row)?;
+        self.overlays[table.place()].put(uuid, Some(row))?;
+        self.changed[table.place()].add_each(places);
+        Ok(())
     }
 
     /// Takes the row out of the table. O(1), but for growth. An error says that memory was refused; the
@@ -215,7 +266,8 @@ impl<'a> Draft<'a> {
         ensures ok { OnOk result (self.new ≡ without_row table (uuid_of uuid) self.old) }
         ensures err { OnErr result (self.new ≡ self.old) }
     {
-        self.overlays[table.place()].put(uuid, None)
+        self.overlays[table.place()].put(uuid, None)?;
+        Ok(())
     }
 
     /// Returns the identifiers of the table's rows as they are now, ascending. O(n log n) for n rows.
@@ -230,8 +282,8 @@ impl<'a> Draft<'a> {
     /// section 5.2, `where`).
     ///
     /// Where the conditions pin `_uuid` it looks that row up: O(the conditions). Where they ask by `==` a value
-    /// of each column of an index that the database keeps, or of a column of references that names a row,
-    /// it tests the rows that are kept under it, and those that were touched (as `referrers` does).
+    /// of each column of one of the `indexes`, or of a column of references that names a row, and the database has
+    /// a row index by it, it tests the rows that this has under it, and those that were touched (as `referrers` does).
     /// Else it tests each row of the table once: O(rows of the table). It orders the m that it found: O(m
     /// log m).
     pub fn matching(&self, table: TableId, conditions: &Where) -> Result<Vec<Uuid>, AllocError>
@@ -266,7 +318,7 @@ impl<'a> Draft<'a> {
     }
 
     /// Returns the table of the database, where the draft has it as it is there and `matching` would test each of its
-    /// rows. O(the conditions), for each facet that is kept.
+    /// rows. O(the conditions), for each row index.
     fn walked(&self, table: TableId, conditions: &Where) -> Option<&Table>
         ensures { IfSome result (λ walked. walked.now ≡ table_at self.now.now table) }
     {
@@ -376,7 +428,7 @@ impl<'a> Draft<'a> {
     /// Returns the identifiers of the table's rows, as they are now, whose value in the column at the place
     /// mentions this identifier, each of them once, in no order that is told.
     ///
-    /// Where the database keeps the rows by this column (`Db::for_schema`): O(what is kept), O(log n) for the n
+    /// Where the database has a row index by this column (`Db::for_schema`): O(the row indexes), O(log n) for the n
     /// pairs of a row and an identifier that it mentions there, O(rows of the table that were touched), and
     /// O(rows that mention it). Else O(rows of the table), times what a search in the value costs.
     pub fn referrers(
@@ -387,7 +439,7 @@ impl<'a> Draft<'a> {
     ) -> Result<Vec<Uuid>, AllocError>
         ensures referrers { IfOk result (λ uuids. (v : model_uuid.Uuid)
             → list_any (eq_by_cmp uuid_cmp v) (map uuid_of uuids.items)
-            ≡ kept.refers_at place (uuid_of uuid) (table_at self.now.now table) v) }
+            ≡ indexed.refers_at place (uuid_of uuid) (table_at self.now.now table) v) }
         ensures distinct { IfOk result (λ uuids. IsDistinct (eq_by_cmp uuid_cmp) (map uuid_of uuids.items)) }
     {
         self.find(table, &Referrers { place, uuid })
@@ -418,11 +470,17 @@ impl<'a> Draft<'a> {
             base,
             under,
             overlays,
+            changed,
         } = self;
         let mut tables = Vec::with_capacity(alloc, overlays.len())?;
         for overlay in overlays {
             let ground = Ground::at(base, under, tables.len());
-            tables.push(overlay.commit(alloc, &ground, version)?)?;
+            let stamp = Stamp {
+                alloc,
+                version,
+                changed: &changed[tables.len()],
+            };
+            tables.push(overlay.commit(&ground, &stamp)?)?;
         }
         Ok(ChangeSet::new(tables))
     }

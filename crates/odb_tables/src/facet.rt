@@ -1,4 +1,4 @@
-//! Facets of rows: by what rows are kept, so that they are found without a walk.
+//! Facets of rows: by what an index finds them without a walk.
 ghost use Rattle.std.specs.Prelude.{◌≡◌, ◌⊎◌, true, IsTrue, OnOk};
 ghost use Rattle.std.specs.Option.{option_copied};
 ghost use Rattle.odb_atoms.specs.Uuid as model_uuid;
@@ -17,7 +17,7 @@ use std::alloc::AllocError;
 use std::collections::BTreeSet;
 use std::hash::RandomState;
 
-/// By what rows are kept: under each tag that it gives a row, the row is found.
+/// By what an index finds rows: under each tag that it gives a row, the row is found.
 pub(crate) enum Facet {
     /// The values in the columns at the places (RFC 7047, section 3.2, `indexes`). The tag is their digest.
     Values(RandomState, Vec<usize>),
@@ -70,7 +70,7 @@ impl Facet {
         }
     }
 
-    /// Keeps the row under each of its tags that it didn't have before, and notes the identifiers that it mentioned
+    /// Adds the row under each of its tags that it didn't have before, and lists the identifiers that it mentioned
     /// before alone. Where memory is refused some of that is done. O(the values compared), and O(log n) for each tag
     /// that came and n pairs.
     pub(crate) fn add_gained(
@@ -99,8 +99,8 @@ impl Facet {
         }
     }
 
-    /// Returns whether `add_gained` noted the tags that a row loses which stays a row. O(1).
-    pub(crate) fn notes(&self) -> bool {
+    /// Returns whether `add_gained` lists the tags that a row loses which stays a row. O(1).
+    pub(crate) fn lists_lost(&self) -> bool {
         match self {
             Facet::Values(_, _) => false,
             Facet::Mentions(_) => true,

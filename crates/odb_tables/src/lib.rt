@@ -5,14 +5,13 @@
 #![tactic(auto)]
 
 mod change_set;
+mod changed_columns;
 mod database;
 mod digest;
 mod draft;
 mod entry;
 mod facet;
 mod ground;
-mod kept;
-mod kept_for;
 mod key;
 mod mentioned;
 mod new_twins;
@@ -20,8 +19,11 @@ mod overlay;
 mod pairs;
 mod pending;
 mod row_change;
+mod row_index;
+mod row_indexes;
 mod row_test;
 mod rows;
+mod stamp;
 mod staying;
 mod table;
 mod table_change;

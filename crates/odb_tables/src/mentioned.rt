@@ -1,9 +1,9 @@
-//! Rows that are kept under the identifiers that they mention.
+//! Rows in an index by the identifiers that they mention.
 ghost use Rattle.std.specs.Prelude.{◌≡◌, ◌⊎◌, true, OnOk, Some};
 ghost use Rattle.std.specs.List.{list_any};
 ghost use Rattle.std.specs.Option.{option_copied};
 ghost use Rattle.odb_atoms.specs.Uuid as model_uuid;
-ghost use Rattle.odb_tables.specs.Kept as kept;
+ghost use Rattle.odb_tables.specs.Indexed as indexed;
 ghost use Rattle.odb_tables.specs.Represented.Entry.{mentions_now};
 ghost use Rattle.odb_tables.specs.Represented.Pairs.{Grows, has};
 
@@ -16,8 +16,8 @@ use std::alloc::AllocError;
 use std::cmp::Ordering;
 use std::collections::BTreeSet;
 
-/// Keeps the key under each identifier that the value mentions, but for those of entries that the value before had,
-/// too, and notes the identifiers of entries that this one alone had. O(the values compared), and O(log n) for each
+/// Adds the key under each identifier that the value mentions, but for those of entries that the value before had,
+/// too, and lists the identifiers of entries that this one alone had. O(the values compared), and O(log n) for each
 /// entry that came and n pairs.
 pub(crate) fn add_gained(
     pairs: &mut BTreeSet<(Key, Key)>,
@@ -27,7 +27,7 @@ pub(crate) fn add_gained(
     value: &Value,
 ) -> Result<(), AllocError>
     ensures grows { Grows pairs.old pairs.new }
-    ensures ok { OnOk result ((tag : model_uuid.Uuid) → kept.mentions tag value.now ≡ true
+    ensures ok { OnOk result ((tag : model_uuid.Uuid) → indexed.mentions tag value.now ≡ true
         → (mentions_now tag (option_copied before.entry) ≡ true) ⊎ (has pairs.new tag key ≡ true)) }
 {
     match value.entries() {
@@ -36,7 +36,7 @@ pub(crate) fn add_gained(
     }
 }
 
-/// Keeps the key under what the entries mention, but for those that stand among the ones before, too, and notes what
+/// Adds the key under what the entries mention, but for those that stand among the ones before, too, and lists what
 /// those mention that stand among the ones before alone. One pass over both.
 fn add_entries<E: Entry>(
     pairs: &mut BTreeSet<(Key, Key)>,
@@ -56,7 +56,7 @@ fn add_entries<E: Entry>(
         };
         match first.cmp(next) {
             Ordering::Less => {
-                note_entry(went, first)?;
+                push_entry(went, first)?;
                 old_left = rest;
             }
             Ordering::Greater => {
@@ -70,10 +70,10 @@ fn add_entries<E: Entry>(
             }
         }
     }
-    note_each(went, old_left)
+    push_each(went, old_left)
 }
 
-/// Keeps the key under what each of the entries mentions.
+/// Adds the key under what each of the entries mentions.
 fn add_each<E: Entry>(
     pairs: &mut BTreeSet<(Key, Key)>,
     key: Key,
@@ -89,22 +89,22 @@ fn add_each<E: Entry>(
     Ok(())
 }
 
-/// Notes what each of the entries mentions.
-fn note_each<E: Entry>(went: &mut Went, entries: &[E]) -> Result<(), AllocError> {
+/// Appends what each of the entries mentions.
+fn push_each<E: Entry>(went: &mut Went, entries: &[E]) -> Result<(), AllocError> {
     for entry in entries {
-        note_entry(went, entry)?;
+        push_entry(went, entry)?;
     }
     Ok(())
 }
 
-/// Notes what the entry mentions.
-fn note_entry<E: Entry>(went: &mut Went, entry: &E) -> Result<(), AllocError> {
+/// Appends what the entry mentions.
+fn push_entry<E: Entry>(went: &mut Went, entry: &E) -> Result<(), AllocError> {
     let (first, second) = entry.tags();
-    went.note(first)?;
-    went.note(second)
+    went.push(first)?;
+    went.push(second)
 }
 
-/// Keeps the key under what the entry mentions.
+/// Adds the key under what the entry mentions.
 fn add_entry<E: Entry>(
     pairs: &mut BTreeSet<(Key, Key)>,
     key: Key,
@@ -118,7 +118,7 @@ fn add_entry<E: Entry>(
     add_tag(pairs, second, key)
 }
 
-/// Keeps the key under the tag, if there is one.
+/// Adds the key under the tag, if there is one.
 fn add_tag(pairs: &mut BTreeSet<(Key, Key)>, tag: Option<Key>, key: Key) -> Result<(), AllocError>
     ensures grows { Grows pairs.old pairs.new }
     ensures ok { OnOk result ((u : model_uuid.Uuid) → tag ≡ Some u → has pairs.new u key ≡ true) }

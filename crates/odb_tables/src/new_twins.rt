@@ -8,17 +8,17 @@ ghost use Rattle.odb_atoms.specs.Represented.Atom.{uuid_of};
 ghost use Rattle.odb_atoms.specs.Uuid as model_uuid;
 ghost use Rattle.odb_atoms.specs.Uuid.{uuid_cmp};
 ghost use Rattle.odb_tables.specs.Database.{table_at};
-ghost use Rattle.odb_tables.specs.Kept as spec;
-ghost use Rattle.odb_tables.specs.Kept.{AlikeAt, HasTwins, StaysApart, cells_at};
+ghost use Rattle.odb_tables.specs.Indexed as spec;
+ghost use Rattle.odb_tables.specs.Indexed.{AlikeAt, HasTwins, StaysApart, cells_at};
 ghost use Rattle.odb_tables.specs.Represented.Facet.{HasTagsNow};
-ghost use Rattle.odb_tables.specs.Represented.Keeping.{IsOfSame, KeepsChanged, KeepsListed};
+ghost use Rattle.odb_tables.specs.Represented.RowIndex.{HasChanged, HasListed, IsOfSame};
 ghost use Rattle.odb_tables.specs.Represented.Overlay.{passes_now};
 ghost use Rattle.odb_tables.specs.Represented.Pairs.{Grows};
 
 use crate::draft::Draft;
 use crate::facet::Facet;
-use crate::kept::Kept;
 use crate::key::Key;
+use crate::row_index::RowIndex;
 use crate::row_test::{Test, Twins, have_same};
 use odb_schema::TableId;
 use std::alloc::AllocError;
@@ -28,8 +28,8 @@ impl Draft<'_> {
     /// Returns whether a row of the table that is new, or has another value in a column at one of these places
     /// than before, has the same values at all of them as another row (RFC 7047, section 3.2, `indexes`).
     ///
-    /// Where the database keeps the rows by these columns (`Db::for_schema`): O(n log n) for the n rows of the
-    /// table that were touched, and for each of them that is new or has another value there O(what is kept),
+    /// Where the database has a row index by these columns (`Db::for_schema`): O(n log n) for the n rows of the
+    /// table that were touched, and for each of them that is new or has another value there O(the row indexes),
     /// O(log m) for the m rows of the table, and O(rows with the same values, or by chance the same digest). Else
     /// each of these is compared with all rows of the table. O(n) where none is new or has another value.
     pub fn has_new_twins(&self, table: TableId, places: &[usize]) -> Result<bool, AllocError>
@@ -42,8 +42,8 @@ impl Draft<'_> {
         if self.are_alike(table, places, touched) {
             return Ok(false);
         }
-        let kept = self.keep_listed(table, places, touched)?;
-        self.has_twins_among(table, places, touched, &kept)
+        let index = self.index_listed(table, places, touched)?;
+        self.has_twins_among(table, places, touched, &index)
     }
 
     /// Returns whether it is certain that each of these rows isn't there, or was there before with the same
@@ -73,50 +73,50 @@ impl Draft<'_> {
         }
     }
 
-    /// Returns these rows, as far as the table has them now, by their values at the places.
-    fn keep_listed(
+    /// Returns an index of these rows, as far as the table has them now, by their values at the places.
+    fn index_listed(
         &self,
         table: TableId,
         places: &[usize],
         uuids: &[Uuid],
-    ) -> Result<Kept, AllocError>
-        ensures { IfOk result (λ kept. KeepsListed (map uuid_of uuids.now) kept (table_at self.now.now table)) }
+    ) -> Result<RowIndex, AllocError>
+        ensures { IfOk result (λ index. HasListed (map uuid_of uuids.now) index (table_at self.now.now table)) }
     {
-        let mut kept = self.without_rows(table, places)?;
+        let mut index = self.without_rows(table, places)?;
         for uuid in uuids {
-            self.keep(&mut kept, table, *uuid)?;
+            self.add_row(&mut index, table, *uuid)?;
         }
-        Ok(kept)
+        Ok(index)
     }
 
-    fn without_rows(&self, table: TableId, places: &[usize]) -> Result<Kept, AllocError> {
+    fn without_rows(&self, table: TableId, places: &[usize]) -> Result<RowIndex, AllocError> {
         let places = Vec::from_slice(self.alloc(), places)?;
         let facet = Facet::Values(self.hashing(), places);
-        Ok(Kept::new(self.alloc(), table.place(), facet))
+        Ok(RowIndex::new(self.alloc(), table.place(), facet))
     }
 
-    /// Keeps the row, if the table has it now.
-    fn keep(&self, kept: &mut Kept, table: TableId, uuid: Uuid) -> Result<(), AllocError>
-        ensures same { IsOfSame kept.old kept.new }
-        ensures grows { Grows kept.old.pairs kept.new.pairs }
-        ensures ok { OnOk result (HasTagsNow kept.old.facet kept.new.pairs (uuid_of uuid) (finite.get (table_at self.now.now table) (uuid_of uuid))) }
+    /// Adds the row to the index, if the table has it now.
+    fn add_row(&self, index: &mut RowIndex, table: TableId, uuid: Uuid) -> Result<(), AllocError>
+        ensures same { IsOfSame index.old index.new }
+        ensures grows { Grows index.old.pairs index.new.pairs }
+        ensures ok { OnOk result (HasTagsNow index.old.facet index.new.pairs (uuid_of uuid) (finite.get (table_at self.now.now table) (uuid_of uuid))) }
     {
         match self.get(table, uuid) {
-            Some(row) => kept.add(Key::of(uuid), row),
+            Some(row) => index.add(Key::of(uuid), row),
             None => Ok(()),
         }
     }
 
     /// Returns whether one of these rows is new, or has another value at the places than before, and another row
-    /// has the same values there. All rows that were touched are kept by these places.
+    /// has the same values there. The index has all rows that were touched, by these places.
     fn has_twins_among(
         &self,
         table: TableId,
         places: &[usize],
         uuids: &[Uuid],
-        touched: &Kept,
+        touched: &RowIndex,
     ) -> Result<bool, AllocError>
-        requires { KeepsChanged touched.now (table_at self.now.old table) (table_at self.now.now table) }
+        requires { HasChanged touched.now (table_at self.now.old table) (table_at self.now.now table) }
         ensures twins { IfOk result (λ twins. IsTrue twins → HasTwins places.now (table_at self.now.now table)) }
         ensures apart { IfOk result (λ twins. twins ≡ false → (u : model_uuid.Uuid)
             → list_any (eq_by_cmp uuid_cmp u) (map uuid_of uuids.now) ≡ true
@@ -135,9 +135,9 @@ impl Draft<'_> {
         table: TableId,
         places: &[usize],
         uuid: Uuid,
-        touched: &Kept,
+        touched: &RowIndex,
     ) -> Result<bool, AllocError>
-        requires { KeepsChanged touched.now (table_at self.now.old table) (table_at self.now.now table) }
+        requires { HasChanged touched.now (table_at self.now.old table) (table_at self.now.now table) }
         ensures twin { IfOk result (λ twin. IsTrue twin
             → spec.has_twin places.now (table_at self.now.now table) (uuid_of uuid) ≡ true) }
         ensures apart { IfOk result (λ twin. twin ≡ false
@@ -155,9 +155,9 @@ impl Draft<'_> {
         table: TableId,
         places: &[usize],
         uuid: Uuid,
-        touched: &Kept,
+        touched: &RowIndex,
     ) -> Result<bool, AllocError>
-        requires { KeepsChanged touched.now (table_at self.now.old table) (table_at self.now.now table) }
+        requires { HasChanged touched.now (table_at self.now.old table) (table_at self.now.now table) }
         ensures { IfOk result (λ twin. twin ≡ spec.has_twin places.now (table_at self.now.now table) (uuid_of uuid)) }
     {
         let Some(row) = self.get(table, uuid) else {
@@ -166,9 +166,14 @@ impl Draft<'_> {
         self.has_any(table, &Twins { places, uuid, row }, touched)
     }
 
-    /// Returns whether a row of the table passes the test. Those that aren't as they were are kept.
-    fn has_any<T: Test>(&self, table: TableId, test: &T, touched: &Kept) -> Result<bool, AllocError>
-        requires { KeepsChanged touched.now (table_at self.now.old table) (table_at self.now.now table) }
+    /// Returns whether a row of the table passes the test. The index has those that aren't as they were.
+    fn has_any<T: Test>(
+        &self,
+        table: TableId,
+        test: &T,
+        touched: &RowIndex,
+    ) -> Result<bool, AllocError>
+        requires { HasChanged touched.now (table_at self.now.old table) (table_at self.now.now table) }
         ensures { IfOk result (λ any. any ≡ list_any (λ e. T.passes test.now e.0 e.1) (finite.entries_of (table_at self.now.now table))) }
     {
         let Some(before) = self.candidates(table, test)? else {

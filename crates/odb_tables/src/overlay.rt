@@ -15,7 +15,7 @@ ghost use Rattle.odb_tables.specs.Database as model;
 ghost use Rattle.odb_atoms.specs.Represented.Atom.{uuid_of};
 ghost use Rattle.odb_tables.specs.Represented.Counted as counted;
 ghost use Rattle.odb_tables.specs.Represented.Found.{Appends, Lists, passing, standing};
-ghost use Rattle.odb_tables.specs.Represented.Keeping.{Suffices};
+ghost use Rattle.odb_tables.specs.Represented.RowIndex.{Suffices};
 ghost use Rattle.odb_tables.specs.Represented.Overlay.{passes_now, row_of};
 ghost use Rattle.odb_tables.specs.Represented.RowChange.{change_at};
 ghost use Rattle.odb_tables.specs.Stamped.{stamped_row, stamped_table};
@@ -26,6 +26,7 @@ use crate::ground::Ground;
 use crate::key::Key;
 use crate::row_change::RowChange;
 use crate::row_test::Test;
+use crate::stamp::Stamp;
 use crate::table_change::TableChange;
 use indexmap::IndexMap;
 use odb_atoms::Row;
@@ -242,20 +243,19 @@ impl Overlay {
         Ok(TableChange::new(rows))
     }
 
-    /// Returns the same, where each row that is new, or has another value in a column, has this version.
+    /// Returns the same, where each row that is new, or has another value in a column, has the stamp's version.
     /// O(rows touched).
     pub(crate) fn commit(
         self,
-        alloc: Global,
         base: &Ground<'_>,
-        version: Uuid,
+        stamp: &Stamp<'_>,
     ) -> Result<TableChange, AllocError>
         ensures { IfOk result (λ changes. changes
-            ≡ change base.now (stamped_table (uuid_of version) (base.now, overlaid base.now self))) }
+            ≡ change base.now (stamped_table (uuid_of stamp.now.version) (base.now, overlaid base.now self))) }
     {
-        let mut rows = Vec::with_capacity(alloc, self.rows.len())?;
+        let mut rows = Vec::with_capacity(stamp.alloc, self.rows.len())?;
         for row in self.rows {
-            add_stamped(alloc, &mut rows, row, base, version)?;
+            add_stamped(&mut rows, row, base, stamp)?;
         }
         Ok(TableChange::new(rows))
     }
@@ -335,20 +335,19 @@ fn loss(base: &Ground<'_>, key: Key, now: Option<&Arc<Row>>) -> usize
     }
 }
 
-/// Adds what leads to the touched row with this version, where it has another value in a column.
+/// Adds what leads to the touched row with the stamp's version, where it has another value in a column.
 fn add_stamped(
-    alloc: Global,
     rows: &mut Vec<RowChange>,
     row: (Key, Option<Arc<Row>>),
     base: &Ground<'_>,
-    version: Uuid,
+    stamp: &Stamp<'_>,
 ) -> Result<(), AllocError>
     ensures { OnOk result (let old_row = finite.get base.now row.0 in
         rows.new.items ≡ rows.old.items ++ option_to_list
-        (change_at row.0 old_row (option_map (stamped_row (uuid_of version) old_row) (row_of row.1)))) }
+        (change_at row.0 old_row (option_map (stamped_row (uuid_of stamp.now.version) old_row) (row_of row.1)))) }
 {
     let (key, now) = row;
-    let change = RowChange::stamped(alloc, key, base.share(key), now, version)?;
+    let change = RowChange::stamped(key, base.share(key), now, stamp)?;
     add(rows, change)
 }
 

@@ -1,4 +1,4 @@
-//! Pairs of a tag and a row's key, as which rows are kept under their tags.
+//! Pairs of a tag and a row's key, as which an index has rows under their tags.
 ghost use Rattle.std.specs.Prelude.{◌≡◌, ◌⊎◌, true, IfOk, OnOk};
 ghost use Rattle.std.specs.List.{IsDistinct, list_any};
 ghost use Rattle.std.specs.Ordering.{eq_by_cmp};

@@ -1,5 +1,5 @@
 //! Changes of single rows. [P 6.3]
-ghost use Rattle.std.specs.Prelude.{◌≡◌, ◌&&◌, IfOk, is_some, not, option_map};
+ghost use Rattle.std.specs.Prelude.{◌≡◌, ◌&&◌, false, IfOk, IsTrue, is_some, not, option_map};
 ghost use Rattle.std.specs.Arc.{arc_value};
 ghost use Rattle.std.specs.Option.{option_copied};
 ghost use Rattle.odb_atoms.specs.Represented.Atom.{uuid_of};
@@ -13,6 +13,7 @@ ghost use Rattle.odb_tables.specs.Represented.RowChange.{change_at};
 ghost use Rattle.odb_tables.specs.Stamped.{stamped_row, with_number};
 
 use crate::key::Key;
+use crate::stamp::Stamp;
 use odb_atoms::{Row, Value};
 use std::alloc::{AllocError, Global};
 use std::marker::Model;
@@ -61,23 +62,22 @@ impl RowChange {
         Ok(Some(RowChange { key, old, new }))
     }
 
-    /// Returns what leads from the old row to the new one with this version; `None` where there is no row,
+    /// Returns what leads from the old row to the new one with the stamp's version; `None` where there is no row,
     /// or one with the same columns.
     pub(crate) fn stamped(
-        alloc: Global,
         key: Key,
         old: Option<&Arc<Row>>,
         new: Option<Arc<Row>>,
-        version: Uuid,
+        stamp: &Stamp<'_>,
     ) -> Result<Option<RowChange>, AllocError>
         ensures { IfOk result (λ change. let old_row = row_of (option_copied old.entry) in
-            change ≡ change_at key old_row (option_map (stamped_row (uuid_of version) old_row) (row_of new))) }
+            change ≡ change_at key old_row (option_map (stamped_row (uuid_of stamp.now.version) old_row) (row_of new))) }
     {
-        if have_same_columns(old, new.as_ref()) {
+        if have_same_columns(old, new.as_ref(), stamp.changed.places.as_slice()) {
             return Ok(None);
         }
         let old = share(old)?;
-        let new = with_version(alloc, new, version)?;
+        let new = with_version(stamp.alloc, new, stamp.version)?;
         Ok(Some(RowChange { key, old, new }))
     }
 
@@ -175,14 +175,44 @@ fn taken_out(alloc: Global, row: Arc<Row>) -> Result<Row, AllocError>
     }
 }
 
-/// Returns whether there is no row, or one with the same columns as before.
-fn have_same_columns(old: Option<&Arc<Row>>, new: Option<&Arc<Row>>) -> bool
+/// Returns whether there is no row, or one with the same columns as before. Those at the places of `first` are compared
+/// before the others, which aren't where one of these differs.
+fn have_same_columns(old: Option<&Arc<Row>>, new: Option<&Arc<Row>>, first: &[usize]) -> bool
     ensures { (number : model_uuid.Uuid) → let old_row = row_of (option_copied old.entry) in
         result ≡ not (is_some (changed_row old_row (option_map (stamped_row number old_row) (row_of (option_copied new.entry))))) }
 {
     match (old, new) {
         (None, None) => true,
-        (Some(old), Some(new)) => are_equal(old.columns(), new.columns()),
+        (Some(old), Some(new)) => are_equal_from(first, &**old, &**new),
+        _ => false,
+    }
+}
+
+/// Returns whether two rows have the same columns. Those at the places of `first` are compared before the others.
+fn are_equal_from(first: &[usize], old: &Row, new: &Row) -> bool
+    ensures { result ≡ same_values old.now.columns new.now.columns }
+{
+    !differ_at_one(first, old, new) && are_equal(old.columns(), new.columns())
+}
+
+/// Returns whether the rows differ at one of the places.
+fn differ_at_one(places: &[usize], old: &Row, new: &Row) -> bool
+    ensures { IsTrue result → same_values old.now.columns new.now.columns ≡ false }
+{
+    for place in places {
+        if differ_at(*place, old, new) {
+            return true;
+        }
+    }
+    false
+}
+
+/// Returns whether both rows have a value at the place, and these differ.
+fn differ_at(place: usize, old: &Row, new: &Row) -> bool
+    ensures { IsTrue result → same_values old.now.columns new.now.columns ≡ false }
+{
+    match (old.get(place), new.get(place)) {
+        (Some(old), Some(new)) => *old != *new,
         _ => false,
     }
 }

@@ -6,16 +6,16 @@ ghost use Rattle.std.specs.List.{list_all, list_any};
 ghost use Rattle.odb_atoms.specs.Represented.Atom.{atom_of, uuid_of};
 ghost use Rattle.odb_atoms.specs.Represented.Value.{pair_of};
 ghost use Rattle.odb_tables.specs.Represented.Facet.{is_tag};
-ghost use Rattle.odb_tables.specs.Represented.Kept.{have_same_at as same_at, is_in};
+ghost use Rattle.odb_tables.specs.Represented.RowTest.{have_same_at as same_at, is_in};
 ghost use Rattle.odb_atoms.specs.Row.{cell, declared};
 ghost use Rattle.odb_atoms.specs.Row as model_row;
 ghost use Rattle.odb_atoms.specs.Uuid as model_uuid;
 ghost use Rattle.odb_atoms.specs.Uuid.{zero_uuid};
 ghost use Rattle.odb_atoms.specs.Value.{is_map, same_value, set_of};
-ghost use Rattle.odb_tables.specs.Kept as kept;
+ghost use Rattle.odb_tables.specs.Indexed as indexed;
 ghost use Rattle.odb_cond.specs.Condition.{holds, holds_all};
 ghost use Rattle.odb_cond.specs.Filter.{selects};
-ghost use Rattle.odb_tables.specs.Kept.{is_twin};
+ghost use Rattle.odb_tables.specs.Indexed.{is_twin};
 
 use crate::digest;
 use crate::entry::key_of;
@@ -122,7 +122,7 @@ pub(crate) struct Referrers {
 }
 
 impl Test for Referrers {
-    ghost passes = { λ referrers v s. kept.mentions (uuid_of referrers.uuid) (cell zero_uuid s (declared referrers.place)) };
+    ghost passes = { λ referrers v s. indexed.mentions (uuid_of referrers.uuid) (cell zero_uuid s (declared referrers.place)) };
 
     fn passes(&self, _uuid: Uuid, row: &Row) -> bool {
         refers(row, self.place, self.uuid)
@@ -169,7 +169,7 @@ fn is_nothing(value: &Value) -> bool
 
 /// Returns whether what the row has in the column at the place mentions the identifier.
 pub(crate) fn refers(row: &Row, place: usize, uuid: Uuid) -> bool
-    ensures { result ≡ kept.mentions (uuid_of uuid) (cell zero_uuid row.now (declared place)) }
+    ensures { result ≡ indexed.mentions (uuid_of uuid) (cell zero_uuid row.now (declared place)) }
 {
     match row.get(place) {
         Some(value) => mentions(value, uuid),
@@ -180,7 +180,7 @@ pub(crate) fn refers(row: &Row, place: usize, uuid: Uuid) -> bool
 /// Returns whether the identifier is an element of the set, or a key or a value of the map. O(log n) for n elements,
 /// and O(n) for n pairs.
 fn mentions(value: &Value, uuid: Uuid) -> bool
-    ensures { result ≡ kept.mentions (uuid_of uuid) value.now }
+    ensures { result ≡ indexed.mentions (uuid_of uuid) value.now }
 {
     let atom = Atom::Uuid(uuid);
     match value.entries() {
@@ -200,7 +200,7 @@ fn is_in_pairs(pairs: &[(Atom, Atom)], atom: &Atom) -> bool
 /// set of identifiers there by `==`.
 fn mentioned_by(conditions: &Where, place: usize) -> Option<Key>
     ensures { IfSome result (λ tag. (u : model_uuid.Uuid) (r : model_row.Row)
-        → IsTrue (holds_all conditions.now u r) → kept.mentions tag (cell zero_uuid r (declared place)) ≡ true) }
+        → IsTrue (holds_all conditions.now u r) → indexed.mentions tag (cell zero_uuid r (declared place)) ≡ true) }
 {
     match conditions.required(place) {
         Some(value) => first_mentioned(value),
@@ -248,7 +248,7 @@ pub(crate) fn named_by(condition: &Clause) -> Option<Key>
 /// condition asks identifiers there. O(1).
 fn mentioned_at(condition: &Clause, place: usize) -> Option<Key>
     ensures { IfSome result (λ tag. (u : model_uuid.Uuid) (r : model_row.Row)
-        → IsTrue (holds condition.now u r) → kept.mentions tag (cell zero_uuid r (declared place)) ≡ true) }
+        → IsTrue (holds condition.now u r) → indexed.mentions tag (cell zero_uuid r (declared place)) ≡ true) }
 {
     if !is_on(condition, place) {
         return None;
@@ -260,7 +260,7 @@ fn mentioned_at(condition: &Clause, place: usize) -> Option<Key>
 /// of identifiers by `==` or `includes`. O(1).
 fn asked(condition: &Clause) -> Option<Key>
     ensures { IfSome result (λ tag. (u : model_uuid.Uuid) (r : model_row.Row)
-        → IsTrue (holds condition.now u r) → kept.mentions tag (cell u r condition.now.column) ≡ true) }
+        → IsTrue (holds condition.now u r) → indexed.mentions tag (cell u r condition.now.column) ≡ true) }
 {
     match condition.function() {
         Function::Equal => first_mentioned(condition.value()),
@@ -271,7 +271,7 @@ fn asked(condition: &Clause) -> Option<Key>
 
 /// Returns the first element of the set, if it is an identifier.
 fn first_mentioned(value: &Value) -> Option<Key>
-    ensures mentioned { IfSome result (λ tag. kept.mentions tag value.now ≡ true) }
+    ensures mentioned { IfSome result (λ tag. indexed.mentions tag value.now ≡ true) }
     ensures set { IfSome result (λ _. is_map value.now ≡ false) }
 {
     match value.entries() {

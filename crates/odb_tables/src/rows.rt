@@ -1,4 +1,4 @@
-//! The rows of a table with what the database keeps beside them. [P 9.2]
+//! The rows of a table with the database's row indexes of them. [P 9.2]
 ghost use Rattle.std.specs.Prelude.{◌≡◌, true, IfOk, IfSome, OnOk, map};
 ghost use Rattle.std.specs.List.{IsDistinct, list_any};
 ghost use Rattle.std.specs.Map.{keys_of};
@@ -13,7 +13,7 @@ ghost use Rattle.odb_cond.specs.Represented.Filter.{member_of};
 ghost use Rattle.odb_cond.specs.Represented.Prepared.{some_holds};
 ghost use Rattle.odb_tables.specs.Database.{table_at};
 ghost use Rattle.odb_tables.specs.Matching.{selected};
-ghost use Rattle.odb_tables.specs.Represented.Keeping.{Covers, KeepsKeys};
+ghost use Rattle.odb_tables.specs.Represented.RowIndex.{Covers, KeepsKeys};
 ghost use Rattle.odb_tables.specs.Represented.Table.{listed};
 
 use crate::database::Db;
@@ -27,7 +27,7 @@ use std::collections::BTreeSet;
 use std::marker::Model;
 use uuid::Uuid;
 
-/// The rows of a table of a database, with what that keeps beside them, by which some are found without a walk.
+/// The rows of a table of a database, with its row indexes of them, by which some are found without a walk.
 #[derive(Drop)]
 pub struct Rows<'a> {
     db: &'a Db,
@@ -83,8 +83,8 @@ impl<'a> Rows<'a> {
         table.list(alloc)
     }
 
-    /// Returns whether `selected` tests each row of the table, whatever the rows are: there are no members, or what the
-    /// database keeps doesn't tell the rows of one of them. O(members of the filter), for each facet that is kept. No
+    /// Returns whether `selected` tests each row of the table, whatever the rows are: there are no members, or no
+    /// row index of the database tells the rows of one of them. O(members of the filter), for each row index. No
     /// contract speaks of it.
     pub fn is_walked(&self, filter: &Filter) -> bool {
         if filter.members().is_empty() {
@@ -110,12 +110,12 @@ impl<'a> Rows<'a> {
 
     /// Returns each of the rows that the filter selects once, with its identifier, in no order that is told.
     ///
-    /// Rows are found by what the database keeps beside them (`Db::for_schema`) where each member of the filter is `false`, or
+    /// Rows are found by the database's row indexes (`Db::for_schema`) where each member of the filter is `false`, or
     /// a condition that asks an identifier of `_uuid` or of a column of references by `==` or `includes`, or a value of a
-    /// column that alone is an index by `==`. That costs O(what is kept) and O(log p) for each member and the p pairs that
-    /// are kept, O(k log k) for the k rows that the members find together, and what `Filter::holds` costs for each of
-    /// these. Else, and where there are no members, it tests each row once: O(rows of the table). So it does where k is
-    /// more than the n rows of the table, after O(n log n).
+    /// column that alone is one of the `indexes` by `==`. That costs O(the row indexes) and O(log p) for each member and
+    /// the p pairs of a row index, O(k log k) for the k rows that the members find together, and what `Filter::holds`
+    /// costs for each of these. Else, and where there are no members, it tests each row once: O(rows of the table). So
+    /// it does where k is more than the n rows of the table, after O(n log n).
     pub fn selected(
         &self,
         alloc: Global,

@@ -1,4 +1,4 @@
-//! What stays of a row that is kept, as its pairs are taken out.
+//! What stays of a row, as its pairs are taken out of an index.
 ghost use Rattle.std.specs.Option.{option_copied};
 ghost use Rattle.odb_tables.specs.Represented.Facet.{Cuts};
 

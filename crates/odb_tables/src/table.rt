@@ -11,8 +11,8 @@ ghost use Rattle.odb_atoms.specs.Uuid.{uuid_cmp};
 ghost use Rattle.odb_cond.specs.Filter.{selects};
 ghost use Rattle.odb_tables.specs.Matching.{selected};
 ghost use Rattle.odb_tables.specs.Represented.Found.{Appends, is_there, passing, untouched};
-ghost use Rattle.odb_tables.specs.Represented.Installed.{each_row, one_row, put_in, settled, taken_back, with_row_at};
-ghost use Rattle.odb_tables.specs.Represented.Keeping.{Covers};
+ghost use Rattle.odb_tables.specs.Represented.Installed.{each_row, one_row, put_in, replaced, taken_back, with_row_at};
+ghost use Rattle.odb_tables.specs.Represented.RowIndex.{Covers};
 ghost use Rattle.odb_tables.specs.Represented.Overlay.{row_of};
 ghost use Rattle.odb_tables.specs.Represented.Table.{listed};
 
@@ -98,7 +98,7 @@ impl Table {
     /// Takes the row of the identifier out, if it has one. O(1).
     pub(crate) fn remove(&mut self, uuid: Uuid) -> Option<Arc<Row>>
         ensures row { option_map arc_value result ≡ finite.get self.old (uuid_of uuid) }
-        ensures rest { self.new ≡ finite.remove self.old (uuid_of uuid) }
+        ensures others { self.new ≡ finite.remove self.old (uuid_of uuid) }
     {
         self.rows.swap_remove(&Key::of(uuid))
     }
@@ -229,16 +229,16 @@ impl Table {
     }
 
     /// Replaces and removes the rows that aren't new by the change. O(rows changed).
-    pub(crate) fn settle(&mut self, change: TableChange)
-        ensures { self.new ≡ each_row settled self.old change }
+    pub(crate) fn replace_old_rows(&mut self, change: TableChange)
+        ensures { self.new ≡ each_row replaced self.old change }
     {
         for row in change.into_rows() {
-            self.settle_row(row);
+            self.replace_old_row(row);
         }
     }
 
-    fn settle_row(&mut self, row: RowChange)
-        ensures { self.new ≡ one_row settled self.old row }
+    fn replace_old_row(&mut self, row: RowChange)
+        ensures { self.new ≡ one_row replaced self.old row }
     {
         let (key, old, new) = row.into_parts();
         if old.is_none() {

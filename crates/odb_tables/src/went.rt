@@ -30,8 +30,8 @@ impl Went {
         self.row = self.row.wrapping_add(1);
     }
 
-    /// Notes that the row loses the tag, if there is one. O(1), but for growth.
-    pub(crate) fn note(&mut self, tag: Option<Key>) -> Result<(), AllocError> {
+    /// Appends the tag, if there is one, as one that the row loses. O(1), but for growth.
+    pub(crate) fn push(&mut self, tag: Option<Key>) -> Result<(), AllocError> {
         let Some(tag) = tag else {
             return Ok(());
         };

@@ -35,7 +35,7 @@ around i ms m low at = sym (take-append-drop i ms) ∙ ap (λ ys. take i ms ++ y
 pub each_live : (k : Chains) (ms : List Mark) (i : ℕ) (m : Mark) → i < length ms → m ≡ slice_index_or ms i m → AreLive k ms → IsLive k m
 each_live k ms i m low at live = (live-right k (take i ms) (m ∷ drop (i + 1) ms) (subst (AreLive k) (around i ms m low at) live)).0
 
-pub one_fewer : (k new : Chains) (ms left : List Mark) (i : ℕ) (m : Mark) → i < length ms → m ≡ slice_index_or ms i m → left ≡ take i ms ++ drop (i + 1) ms → new ≡ released m.table m.place k → IsNow new → AreAllMarks k ms → AreAllMarks new left
+pub one_fewer : (k new : Chains) (ms left : List Mark) (i : ℕ) (m : Mark) → i < length ms → m ≡ slice_index_or ms i m → left ≡ take i ms ++ drop (i + 1) ms → new ≡ released m.table m.version k → IsNow new → AreAllMarks k ms → AreAllMarks new left
 one_fewer k new ms left i m low at is_left is now all =
     let xs = take i ms in
     let ys = drop (i + 1) ms in

@@ -1,11 +1,11 @@
 //! A session whose messages nobody takes: how many submits its seat is answered, what its ring gives then, what it still gives
 //! once the session has ended, and what another session is sent meanwhile.
 ghost use Rattle.std.specs.Prelude.{◌≡◌};
-ghost use Rattle.odb_hub.specs.Kept.{IsNew};
+ghost use Rattle.odb_hub.specs.Guarded.{IsNew};
 
-use crate::requests::{NET, core, note, request};
+use crate::requests::{NET, add_message, core, request};
 use odb_core::{Core, EventRefusal, Out};
-use odb_hub::{Bell, Calls, Hub, Mailbox, Seat};
+use odb_hub::{Bell, Hub, Mailbox, Seat, Wakes};
 use odb_par::{Open, Workers};
 use std::alloc::{AllocError, Global};
 use std::hash::RandomState;
@@ -47,7 +47,7 @@ struct SessionsFound {
 
 /// Makes a bell that calls nobody who hears.
 pub(crate) fn bell(alloc: Global) -> Result<Bell, AllocError> {
-    Ok(Bell::new(Arc::new(alloc, Calls::new(alloc)?)?, 0))
+    Ok(Bell::new(Arc::new(alloc, Wakes::new(alloc)?)?, 0))
 }
 
 /// Opens a session; an error says that none can be opened.
@@ -121,7 +121,7 @@ fn is_whole(out: &Out, text: &[u8]) -> bool {
 fn take(mailbox: &mut Mailbox, text: &mut Vec<u8>) -> Result<(), AllocError> {
     for _ in 0..MOST {
         match mailbox.next() {
-            Some(out) => note(text, &out)?,
+            Some(out) => add_message(text, &out)?,
             None => break,
         }
     }
@@ -143,11 +143,11 @@ fn run_rounds<L: Ledger, R: Threads + Wait + Clock + Sync>(
 }
 
 /// Ends the session. Where memory is refused it is tried again.
-pub(crate) fn part<L: Ledger, R: Wait>(rt: &R, hub: &Hub<L>, seat: Seat<L>) {
+pub(crate) fn leave<L: Ledger, R: Wait>(rt: &R, hub: &Hub<L>, seat: Seat<L>) {
     let mut seat = seat;
     for _ in rt.forever() {
-        let parted = hub.enter(rt).part(seat);
-        match parted {
+        let outcome = hub.enter(rt).leave(seat);
+        match outcome {
             Ok(()) => return,
             Err(back) => seat = back,
         }
@@ -163,7 +163,7 @@ fn other<L: Ledger, R: Threads + Wait + Clock + Sync>(
 ) -> Result<Vec<u8>, AllocError> {
     let (mut seat, mut mailbox) = open(rt, alloc, hub)?;
     let sent = ask_all(rt, alloc, hub, &mut seat);
-    part(rt, hub, seat);
+    leave(rt, hub, seat);
     sent?;
     let mut text = Vec::new(alloc);
     take(&mut mailbox, &mut text)?;
@@ -202,7 +202,7 @@ fn find<L: Ledger, R: Threads + Wait + Clock + Sync>(
         Ok(0)
     };
     let rounds = run_rounds(rt, hub);
-    part(rt, hub, seat);
+    leave(rt, hub, seat);
     rounds?;
     let given = given?;
     let left = replies(alloc, &mut mailbox, given.saturating_add(1))?;
@@ -231,10 +231,10 @@ fn trial<L: Ledger, R: Threads + Wait + Clock + Sync>(
 {
     let hub: Hub<L> = Hub::new(alloc, core, blank, 2, Workers::new(1, 0));
     let found = find(rt, alloc, &hub, is_asked)?;
-    let first = hub.enter(rt).settle();
-    let second = hub.enter(rt).settle();
+    let first = hub.enter(rt).begin_journal_anew();
+    let second = hub.enter(rt).begin_journal_anew();
     come_and_go(rt, alloc, &hub)?;
-    let third = hub.enter(rt).settle();
+    let third = hub.enter(rt).begin_journal_anew();
     Ok((found, [first, second, third]))
 }
 
@@ -246,7 +246,7 @@ fn come_and_go<L: Ledger, R: Threads + Wait + Clock + Sync>(
 ) -> Result<(), AllocError> {
     let (mut seat, mailbox) = open(rt, alloc, hub)?;
     let taken = submit(rt, alloc, hub, &mut seat, OTHER[3].as_bytes());
-    part(rt, hub, seat);
+    leave(rt, hub, seat);
     drop(mailbox);
     taken?;
     Ok(())

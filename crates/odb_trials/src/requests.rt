@@ -1,6 +1,6 @@
 //! Cores, requests and messages for trials.
 ghost use Rattle.std.specs.Prelude.{IfOk};
-ghost use Rattle.odb_hub.specs.Kept.{IsNew};
+ghost use Rattle.odb_hub.specs.Guarded.{IsNew};
 
 use odb_core::{Core, Out};
 use odb_hub::Submission;
@@ -49,8 +49,8 @@ fn submission(alloc: Global, request: Request) -> Result<Submission, AllocError>
     Ok(Submission::new(request, fresh))
 }
 
-/// Writes a message down, after those before it.
-pub(crate) fn note(text: &mut Vec<u8>, out: &Out) -> Result<(), AllocError> {
+/// Adds a message to a text, after those before it.
+pub(crate) fn add_message(text: &mut Vec<u8>, out: &Out) -> Result<(), AllocError> {
     text.extend_from_slice(out.before.as_slice())?;
     if let Some(body) = &out.body {
         text.extend_from_slice(body.as_slice())?;

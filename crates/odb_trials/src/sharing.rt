@@ -1,6 +1,6 @@
 //! Clients that subscribe alike are sent one text, which is stored once.
 
-use crate::requests::{NET, core, note, request};
+use crate::requests::{NET, add_message, core, request};
 use odb_core::{Core, Out, SessionId};
 use odb_hub::Submission;
 use std::alloc::{AllocError, Global};
@@ -82,7 +82,7 @@ fn subscribers(
 
 fn text_of(alloc: Global, out: &Out) -> Result<Vec<u8>, AllocError> {
     let mut text = Vec::new(alloc);
-    note(&mut text, out)?;
+    add_message(&mut text, out)?;
     Ok(text)
 }
 

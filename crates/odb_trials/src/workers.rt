@@ -1,9 +1,9 @@
 //! Rounds whose jobs two workers compose, where neither may go on before the other has begun: they run side by side, and the
 //! texts are those that one worker composes.
-ghost use Rattle.odb_hub.specs.Kept.{IsNew};
+ghost use Rattle.odb_hub.specs.Guarded.{IsNew};
 
 use crate::mailboxes::bell;
-use crate::requests::{NET, core, note, request};
+use crate::requests::{NET, add_message, core, request};
 use crate::sharing::submitter;
 use odb_core::Core;
 use odb_hub::{HubState, Mailbox};
@@ -115,7 +115,7 @@ fn sent<R: Threads + Sync, G: Gate + Sync>(
         let Some(out) = mailbox.next() else {
             return Err(AllocError);
         };
-        note(&mut text, &out)?;
+        add_message(&mut text, &out)?;
     }
     Ok(text)
 }

@@ -1,10 +1,10 @@
 //! Writers that take a byte a call and, at each place in turn of what an outbox gives, fail, or take none; and good ones, to
 //! which it is written on.
 ghost use Rattle.std.specs.Prelude.{◌≡◌};
-ghost use Rattle.odb_hub.specs.Kept.{IsNew};
+ghost use Rattle.odb_hub.specs.Guarded.{IsNew};
 
-use crate::mailboxes::{open, part, submit};
-use crate::requests::{core, note};
+use crate::mailboxes::{leave, open, submit};
+use crate::requests::{add_message, core};
 use crate::streams::{FailingWriter, Taken};
 use odb_core::Core;
 use odb_hub::{Hub, Mailbox, Outbox, Seat};
@@ -36,7 +36,7 @@ const ASKED: [&str; 3] = [
     r#"{"method":"monitor_cancel","params":["m"],"id":3}"#,
 ];
 
-/// The request by which a peer is asked whether it is there.
+/// The request by which a peer is probed, whether it is there.
 const PROBE: &str = r#"{"id":"echo","method":"echo","params":[]}"#;
 
 /// How many bytes an outbox has ready at most.
@@ -84,7 +84,7 @@ impl WriterStop {
 }
 
 impl<'a, L: Ledger, R: Threads + Wait + Clock + Sync> WrittenSession<'a, L, R> {
-    /// Returns whether a writer that stops so was written just what comes before, whether the peer may be asked then,
+    /// Returns whether a writer that stops so was written just what comes before, whether the peer may be probed then,
     /// and whether a good writer is written the rest, each byte once.
     fn writes(
         &mut self,
@@ -96,19 +96,19 @@ impl<'a, L: Ledger, R: Threads + Wait + Clock + Sync> WrittenSession<'a, L, R> {
         let mut taken = Taken::new(self.alloc);
         let fault = write_on(self.outbox, &mut taken, stop);
         if fault != stop.fault_in(whole)
-            || self.outbox.has_rest() != fault.is_some()
+            || self.outbox.has_left() != fault.is_some()
             || whole.get(..stop.most) != Some(taken.text.as_slice())
         {
             return Ok(false);
         }
-        let asks = self.outbox.ask()?;
+        let probed = self.outbox.probe()?;
         let good = WriterStop {
             most: usize::MAX,
             fails: true,
         };
         let fault = write_on(self.outbox, &mut taken, good);
-        let is_done = fault.is_none() && !self.outbox.has_rest();
-        Ok(is_done && asks != stop.is_midway(whole) && is_all(&taken.text, whole, asks))
+        let is_done = fault.is_none() && !self.outbox.has_left();
+        Ok(is_done && probed != stop.is_midway(whole) && is_all(&taken.text, whole, probed))
     }
 }
 
@@ -130,9 +130,9 @@ fn write_on(outbox: &mut Outbox, taken: &mut Taken, stop: WriterStop) -> Option<
     None
 }
 
-/// Returns whether this is the whole, and the request after it where the peer was asked.
-fn is_all(text: &Vec<u8>, whole: &[u8], asks: bool) -> bool {
-    let behind = if asks { PROBE } else { "" };
+/// Returns whether this is the whole, and the request after it where the peer was probed.
+fn is_all(text: &Vec<u8>, whole: &[u8], probed: bool) -> bool {
+    let behind = if probed { PROBE } else { "" };
     text.get(..whole.len()) == Some(whole) && text.get(whole.len()..) == Some(behind.as_bytes())
 }
 
@@ -171,7 +171,7 @@ fn take(alloc: Global, mailbox: &mut Mailbox) -> Result<Vec<u8>, AllocError> {
     let mut text = Vec::new(alloc);
     for _ in ASKED {
         match mailbox.next() {
-            Some(out) => note(&mut text, &out)?,
+            Some(out) => add_message(&mut text, &out)?,
             None => return Err(AllocError),
         }
     }
@@ -189,7 +189,7 @@ fn whole<L: Ledger, R: Threads + Wait + Clock + Sync>(
     let inserted = insert(rt, alloc, hub, &mut seat, length);
     drop(mailbox.next());
     let asked = ask(rt, alloc, hub, &mut seat);
-    part(rt, hub, seat);
+    leave(rt, hub, seat);
     inserted?;
     asked?;
     take(alloc, &mut mailbox)
@@ -239,7 +239,7 @@ fn trial<L: Ledger, R: Threads + Wait + Clock + Sync>(
     };
     let found = first_wrong(&mut session, &mut seat, whole.as_slice(), sizes.step);
     drop(session);
-    part(rt, &hub, seat);
+    leave(rt, &hub, seat);
     found
 }
 

@@ -2,7 +2,7 @@
 use Rattle.std.proofs.Common.{◌≡◌, ℕ, zero, suc, Bool, true, false, not, cond, List, [], ◌∷◌, refl, sym}
 use Rattle.std.specs.Prelude.{◌&&◌, ◌||◌, if◌then◌else◌, fold}
 use Rattle.odb_waking.proofs.PumpKept.{no, or_true}
-use Rattle.odb_waking.specs.Loop.{Giver, idle, refused, marked, sent, calls, tells, Place, begins, collects, writes, takes, looks, refills, checks, submits, ends, parts, lies_down, looks_again, sleeps, rises, Loop, Step, puts, flushes, giver_goes_on, calls_another, giver_looks, giver_swaps, giver_wakes, peer_takes, peer_sends, peer_ends, peer_goes, cuts_off, loop_goes_on, meets_busy, NoMessageIsLeft, NoRequestIsLeft, NoSocketIsLeft, NoEndIsLeft, begun, is_asleep, is_submitting, is_to_wake, next, polled, some, will_tell}
+use Rattle.odb_waking.specs.Loop.{Giver, idle, refused, marked, sent, calls, tells, Stage, begins, collects, writes, takes, looks, refills, checks, submits, ends, leaves, lies_down, looks_again, sleeps, rises, Loop, Step, puts, flushes, giver_goes_on, calls_another, giver_looks, giver_swaps, giver_wakes, peer_takes, peer_sends, peer_ends, peer_goes, cuts_off, loop_goes_on, meets_busy, NoMessageIsLeft, NoRequestIsLeft, NoSocketIsLeft, NoEndIsLeft, begun, is_asleep, is_submitting, is_to_wake, next, polled, some, will_tell}
 
 abbrev implies : Bool → Bool → Bool
 implies true b = b
@@ -28,31 +28,31 @@ is_telling x = elim x [ idle ↦ false | refused ↦ false | marked ↦ false | 
 abbrev is_idle : Giver → Bool
 is_idle x = elim x [ idle ↦ true | refused ↦ false | marked ↦ false | sent ↦ false | calls ↦ false | tells ↦ false ]
 
-abbrev is_collecting : Place → Bool
-is_collecting x = elim x [ begins ↦ false | collects ↦ true | writes ↦ false | takes ↦ false | looks ↦ false | refills ↦ false | checks ↦ false | submits ↦ false | ends ↦ false | parts ↦ false | lies_down ↦ false | looks_again ↦ false | sleeps ↦ false | rises ↦ false ]
+abbrev is_collecting : Stage → Bool
+is_collecting x = elim x [ begins ↦ false | collects ↦ true | writes ↦ false | takes ↦ false | looks ↦ false | refills ↦ false | checks ↦ false | submits ↦ false | ends ↦ false | leaves ↦ false | lies_down ↦ false | looks_again ↦ false | sleeps ↦ false | rises ↦ false ]
 
 -- before it chooses what to look at
-abbrev is_early : Place → Bool
-is_early x = elim x [ begins ↦ true | collects ↦ true | writes ↦ false | takes ↦ false | looks ↦ false | refills ↦ false | checks ↦ false | submits ↦ false | ends ↦ false | parts ↦ false | lies_down ↦ false | looks_again ↦ false | sleeps ↦ false | rises ↦ true ]
+abbrev is_early : Stage → Bool
+is_early x = elim x [ begins ↦ true | collects ↦ true | writes ↦ false | takes ↦ false | looks ↦ false | refills ↦ false | checks ↦ false | submits ↦ false | ends ↦ false | leaves ↦ false | lies_down ↦ false | looks_again ↦ false | sleeps ↦ false | rises ↦ true ]
 
 -- not at the session
-abbrev is_outside : Place → Bool
-is_outside x = elim x [ begins ↦ true | collects ↦ true | writes ↦ false | takes ↦ false | looks ↦ false | refills ↦ false | checks ↦ false | submits ↦ false | ends ↦ false | parts ↦ false | lies_down ↦ true | looks_again ↦ true | sleeps ↦ true | rises ↦ true ]
+abbrev is_outside : Stage → Bool
+is_outside x = elim x [ begins ↦ true | collects ↦ true | writes ↦ false | takes ↦ false | looks ↦ false | refills ↦ false | checks ↦ false | submits ↦ false | ends ↦ false | leaves ↦ false | lies_down ↦ true | looks_again ↦ true | sleeps ↦ true | rises ↦ true ]
 
-abbrev is_parting : Place → Bool
-is_parting x = elim x [ begins ↦ false | collects ↦ false | writes ↦ false | takes ↦ false | looks ↦ false | refills ↦ false | checks ↦ false | submits ↦ false | ends ↦ false | parts ↦ true | lies_down ↦ false | looks_again ↦ false | sleeps ↦ false | rises ↦ false ]
+abbrev is_leaving : Stage → Bool
+is_leaving x = elim x [ begins ↦ false | collects ↦ false | writes ↦ false | takes ↦ false | looks ↦ false | refills ↦ false | checks ↦ false | submits ↦ false | ends ↦ false | leaves ↦ true | lies_down ↦ false | looks_again ↦ false | sleeps ↦ false | rises ↦ false ]
 
-abbrev is_ending : Place → Bool
-is_ending x = elim x [ begins ↦ false | collects ↦ false | writes ↦ false | takes ↦ false | looks ↦ false | refills ↦ false | checks ↦ false | submits ↦ false | ends ↦ true | parts ↦ false | lies_down ↦ false | looks_again ↦ false | sleeps ↦ false | rises ↦ false ]
+abbrev is_ending : Stage → Bool
+is_ending x = elim x [ begins ↦ false | collects ↦ false | writes ↦ false | takes ↦ false | looks ↦ false | refills ↦ false | checks ↦ false | submits ↦ false | ends ↦ true | leaves ↦ false | lies_down ↦ false | looks_again ↦ false | sleeps ↦ false | rises ↦ false ]
 
-abbrev is_sleeping : Place → Bool
-is_sleeping x = elim x [ begins ↦ false | collects ↦ false | writes ↦ false | takes ↦ false | looks ↦ false | refills ↦ false | checks ↦ false | submits ↦ false | ends ↦ false | parts ↦ false | lies_down ↦ false | looks_again ↦ false | sleeps ↦ true | rises ↦ false ]
+abbrev is_sleeping : Stage → Bool
+is_sleeping x = elim x [ begins ↦ false | collects ↦ false | writes ↦ false | takes ↦ false | looks ↦ false | refills ↦ false | checks ↦ false | submits ↦ false | ends ↦ false | leaves ↦ false | lies_down ↦ false | looks_again ↦ false | sleeps ↦ true | rises ↦ false ]
 
-abbrev is_to_sleep : Place → Bool
-is_to_sleep x = elim x [ begins ↦ false | collects ↦ false | writes ↦ false | takes ↦ false | looks ↦ false | refills ↦ false | checks ↦ false | submits ↦ false | ends ↦ false | parts ↦ false | lies_down ↦ false | looks_again ↦ true | sleeps ↦ false | rises ↦ false ]
+abbrev is_to_sleep : Stage → Bool
+is_to_sleep x = elim x [ begins ↦ false | collects ↦ false | writes ↦ false | takes ↦ false | looks ↦ false | refills ↦ false | checks ↦ false | submits ↦ false | ends ↦ false | leaves ↦ false | lies_down ↦ false | looks_again ↦ true | sleeps ↦ false | rises ↦ false ]
 
 -- there is a message, or one is held back, that the loop finds by a call alone
-abbrev relies : Place → ℕ → Bool → Bool
+abbrev relies : Stage → ℕ → Bool → Bool
 relies begins n held = some n || held
 relies collects n held = some n || held
 relies writes n held = false
@@ -62,7 +62,7 @@ relies refills n held = false
 relies checks n held = some n || held
 relies submits n held = some n || held
 relies ends n held = some n || held
-relies parts n held = false
+relies leaves n held = false
 relies lies_down n held = some n || held
 relies looks_again n held = some n || held
 relies sleeps n held = some n || held
@@ -70,7 +70,7 @@ relies rises n held = some n || held
 
 -- what every step keeps, of: the flag of what is held back; calls that were made; a session that was given something since its request met Busy; one that has a message; one that is reported; a loop that sleeps; one that was told; a full socket; what is unread; a peer that ended its side, twice; one that is gone; a session that is to end, and one that ended; what waits, three times; what is done, three times
 abbrev Sound : Loop → Type 0
-Sound p = ((p.parted || marks p.giver p.held p.holds) ≡ true) × (implies p.called (p.any || (is_telling p.giver || is_collecting p.place)) ≡ true) × (implies (p.busy && p.given) (p.called || will_call p.giver) ≡ true) × (implies (relies p.place p.in_ring (not p.parted && (p.held || p.holds)) && not p.closed) (p.blocked || (p.reported || (p.called || will_call p.giver))) ≡ true) × (implies p.reported (is_early p.place) ≡ true) × (implies (is_sleeping p.place || is_to_sleep p.place) (p.asleep || (some p.waking || p.token)) ≡ true) × (implies (is_sleeping p.place && p.any) (some p.looking || (some p.swapping || (some p.waking || p.token))) ≡ true) × (implies p.blocked (p.full || (p.ready || p.reported)) ≡ true) × (implies (is_outside p.place && (p.unread && not p.closed)) (p.ready || (p.waits || (p.blocked || (p.reported || (p.called || will_call p.giver))))) ≡ true) × (implies (is_outside p.place && (p.half && not p.closed)) (p.ready || (p.blocked || (p.reported || (p.called || will_call p.giver)))) ≡ true) × (implies p.half (p.ready || p.ended) ≡ true) × (implies p.over (p.ready || p.cut) ≡ true) × (implies (p.cut && not p.closed) (p.reported || is_parting p.place) ≡ true) × (implies p.parted (is_idle p.giver && not p.held) ≡ true) × (implies p.done (not p.waits) ≡ true) × (implies p.busy p.waits ≡ true) × (implies (is_outside p.place && (p.waits && (not p.busy && not p.closed))) (p.blocked || (p.reported || (p.called || will_call p.giver))) ≡ true) × (implies p.parted p.done ≡ true) × (implies (is_submitting p.place) (not (p.done || p.busy)) ≡ true) × (implies (is_ending p.place) (p.done || p.busy) ≡ true)
+Sound p = ((p.has_left || marks p.giver p.held p.holds) ≡ true) × (implies p.called (p.any || (is_telling p.giver || is_collecting p.stage)) ≡ true) × (implies (p.busy && p.given) (p.called || will_call p.giver) ≡ true) × (implies (relies p.stage p.in_ring (not p.has_left && (p.held || p.holds)) && not p.closed) (p.blocked || (p.reported || (p.called || will_call p.giver))) ≡ true) × (implies p.reported (is_early p.stage) ≡ true) × (implies (is_sleeping p.stage || is_to_sleep p.stage) (p.asleep || (some p.waking || p.token)) ≡ true) × (implies (is_sleeping p.stage && p.any) (some p.looking || (some p.swapping || (some p.waking || p.token))) ≡ true) × (implies p.blocked (p.full || (p.ready || p.reported)) ≡ true) × (implies (is_outside p.stage && (p.unread && not p.closed)) (p.ready || (p.waits || (p.blocked || (p.reported || (p.called || will_call p.giver))))) ≡ true) × (implies (is_outside p.stage && (p.half && not p.closed)) (p.ready || (p.blocked || (p.reported || (p.called || will_call p.giver)))) ≡ true) × (implies p.half (p.ready || p.ended) ≡ true) × (implies p.over (p.ready || p.cut) ≡ true) × (implies (p.cut && not p.closed) (p.reported || is_leaving p.stage) ≡ true) × (implies p.has_left (is_idle p.giver && not p.held) ≡ true) × (implies p.done (not p.waits) ≡ true) × (implies p.busy p.waits ≡ true) × (implies (is_outside p.stage && (p.waits && (not p.busy && not p.closed))) (p.blocked || (p.reported || (p.called || will_call p.giver))) ≡ true) × (implies p.has_left p.done ≡ true) × (implies (is_submitting p.stage) (not (p.done || p.busy)) ≡ true) × (implies (is_ending p.stage) (p.done || p.busy) ≡ true)
 
 -- ---- small facts
 
@@ -182,30 +182,30 @@ cut_before false c d e = refl
 
 -- ---- steps of who gives
 
-putting : (room : Bool) (x : Giver) (held parted : Bool) (p : Loop) → Sound (record p { giver = x; held = held; parted = parted }) → Sound (next (puts room) (record p { giver = x; held = held; parted = parted }))
+putting : (room : Bool) (x : Giver) (held has_left : Bool) (p : Loop) → Sound (record p { giver = x; held = held; has_left = has_left }) → Sound (next (puts room) (record p { giver = x; held = held; has_left = has_left }))
 putting room idle held true p h = h
 putting room idle true false p h = h
 putting true idle false false p h = (refl, h.1, yes_2 _ p.called, yes_4 _ p.blocked p.reported p.called, h.4, h.5, h.6, h.7, yes_6 _ p.ready p.waits p.blocked p.reported p.called, yes_5 _ p.ready p.blocked p.reported p.called, h.10, h.11, h.12, refl, h.14, h.15, yes_4 _ p.blocked p.reported p.called, h.17, h.18, h.19)
 putting false idle false false p h = (refl, h.1, yes_2 _ p.called, yes_4 _ p.blocked p.reported p.called, h.4, h.5, h.6, h.7, yes_6 _ p.ready p.waits p.blocked p.reported p.called, yes_5 _ p.ready p.blocked p.reported p.called, h.10, h.11, h.12, refl, h.14, h.15, yes_4 _ p.blocked p.reported p.called, h.17, h.18, h.19)
-putting room refused held parted p h = h
-putting room marked held parted p h = h
-putting room sent held parted p h = h
-putting room calls held parted p h = h
-putting room tells held parted p h = h
+putting room refused held has_left p h = h
+putting room marked held has_left p h = h
+putting room sent held has_left p h = h
+putting room calls held has_left p h = h
+putting room tells held has_left p h = h
 
-flushing : (room : Bool) (x : Giver) (held parted : Bool) (p : Loop) → Sound (record p { giver = x; held = held; parted = parted }) → Sound (next (flushes room) (record p { giver = x; held = held; parted = parted }))
+flushing : (room : Bool) (x : Giver) (held has_left : Bool) (p : Loop) → Sound (record p { giver = x; held = held; has_left = has_left }) → Sound (next (flushes room) (record p { giver = x; held = held; has_left = has_left }))
 flushing room idle held true p h = h
 flushing room idle false false p h = h
 flushing true idle true false p h = (refl, h.1, yes_2 _ p.called, yes_4 _ p.blocked p.reported p.called, h.4, h.5, h.6, h.7, yes_6 _ p.ready p.waits p.blocked p.reported p.called, yes_5 _ p.ready p.blocked p.reported p.called, h.10, h.11, h.12, refl, h.14, h.15, yes_4 _ p.blocked p.reported p.called, h.17, h.18, h.19)
 flushing false idle true false p h = (refl, h.1, yes_2 _ p.called, yes_4 _ p.blocked p.reported p.called, h.4, h.5, h.6, h.7, yes_6 _ p.ready p.waits p.blocked p.reported p.called, yes_5 _ p.ready p.blocked p.reported p.called, h.10, h.11, h.12, refl, h.14, h.15, yes_4 _ p.blocked p.reported p.called, h.17, h.18, h.19)
-flushing room refused held parted p h = h
-flushing room marked held parted p h = h
-flushing room sent held parted p h = h
-flushing room calls held parted p h = h
-flushing room tells held parted p h = h
+flushing room refused held has_left p h = h
+flushing room marked held has_left p h = h
+flushing room sent held has_left p h = h
+flushing room calls held has_left p h = h
+flushing room tells held has_left p h = h
 
-giving : (room : Bool) (x : Giver) (held holds parted : Bool) (p : Loop) → Sound (record p { giver = x; held = held; holds = holds; parted = parted }) → Sound (next (giver_goes_on room) (record p { giver = x; held = held; holds = holds; parted = parted }))
-giving room idle held holds parted p h = h
+giving : (room : Bool) (x : Giver) (held holds has_left : Bool) (p : Loop) → Sound (record p { giver = x; held = held; holds = holds; has_left = has_left }) → Sound (next (giver_goes_on room) (record p { giver = x; held = held; holds = holds; has_left = has_left }))
+giving room idle held holds has_left p h = h
 giving room refused held holds true p h = no h.13
 giving room marked held holds true p h = no h.13
 giving room sent held holds true p h = no h.13
@@ -225,12 +225,12 @@ giving room tells held holds false p h = (h.0, yes p.called, h.2, h.3, h.4, h.5,
 looking : (n : ℕ) (any : Bool) (p : Loop) → Sound (record p { looking = n; any = any }) → Sound (next giver_looks (record p { looking = n; any = any }))
 looking zero any p h = h
 looking (suc n) true p h = (h.0, h.1, h.2, h.3, h.4, h.5, yes_2 _ (some n), h.7, h.8, h.9, h.10, h.11, h.12, h.13, h.14, h.15, h.16, h.17, h.18, h.19)
-looking (suc n) false p h = (h.0, h.1, h.2, h.3, h.4, h.5, none (is_sleeping p.place) _, h.7, h.8, h.9, h.10, h.11, h.12, h.13, h.14, h.15, h.16, h.17, h.18, h.19)
+looking (suc n) false p h = (h.0, h.1, h.2, h.3, h.4, h.5, none (is_sleeping p.stage) _, h.7, h.8, h.9, h.10, h.11, h.12, h.13, h.14, h.15, h.16, h.17, h.18, h.19)
 
 swapping : (n : ℕ) (asleep : Bool) (p : Loop) → Sound (record p { swapping = n; asleep = asleep }) → Sound (next giver_swaps (record p { swapping = n; asleep = asleep }))
 swapping zero asleep p h = h
 swapping (suc n) true p h = (h.0, h.1, h.2, h.3, h.4, yes _, yes_3 _ (some p.looking) (some n), h.7, h.8, h.9, h.10, h.11, h.12, h.13, h.14, h.15, h.16, h.17, h.18, h.19)
-swapping (suc n) false p h = (h.0, h.1, h.2, h.3, h.4, h.5, woken_before (is_sleeping p.place) (is_to_sleep p.place) p.any p.looking n _ h.5, h.7, h.8, h.9, h.10, h.11, h.12, h.13, h.14, h.15, h.16, h.17, h.18, h.19)
+swapping (suc n) false p h = (h.0, h.1, h.2, h.3, h.4, h.5, woken_before (is_sleeping p.stage) (is_to_sleep p.stage) p.any p.looking n _ h.5, h.7, h.8, h.9, h.10, h.11, h.12, h.13, h.14, h.15, h.16, h.17, h.18, h.19)
 
 waking : (n : ℕ) (p : Loop) → Sound (record p { waking = n }) → Sound (next giver_wakes (record p { waking = n }))
 waking zero p h = h
@@ -247,7 +247,7 @@ peer_sending true over p h = h
 peer_sending false true p h = h
 peer_sending false false p h = (h.0, h.1, h.2, h.3, h.4, h.5, h.6, yes_2 p.blocked p.full, yes _, yes _, h.10, h.11, h.12, h.13, h.14, h.15, h.16, h.17, h.18, h.19)
 
-cutting : (x : Place) (closed : Bool) (p : Loop) → Sound (record p { place = x; closed = closed }) → Sound (next cuts_off (record p { place = x; closed = closed }))
+cutting : (x : Stage) (closed : Bool) (p : Loop) → Sound (record p { stage = x; closed = closed }) → Sound (next cuts_off (record p { stage = x; closed = closed }))
 cutting begins true p h = h
 cutting begins false p h = (h.0, h.1, h.2, yes_2 _ p.blocked, refl, h.5, h.6, yes_3 p.blocked p.full p.ready, yes_4 _ p.ready p.waits p.blocked, yes_3 _ p.ready p.blocked, h.10, yes_2 p.over p.ready, refl, h.13, h.14, h.15, yes_2 _ p.blocked, h.17, h.18, h.19)
 cutting collects closed p h = h
@@ -258,7 +258,7 @@ cutting refills closed p h = h
 cutting checks closed p h = h
 cutting submits closed p h = h
 cutting ends closed p h = h
-cutting parts closed p h = h
+cutting leaves closed p h = h
 cutting lies_down closed p h = h
 cutting looks_again closed p h = h
 cutting sleeps closed p h = h
@@ -266,7 +266,7 @@ cutting rises closed p h = h
 
 -- ---- steps of the loop
 
-collecting : (closed reported called cut : Bool) (p : Loop) → Sound (record p { closed = closed; reported = reported; called = called; cut = cut; place = collects }) → (b : Bool) → Sound (next (loop_goes_on b) (record p { closed = closed; reported = reported; called = called; cut = cut; place = collects }))
+collecting : (closed reported called cut : Bool) (p : Loop) → Sound (record p { closed = closed; reported = reported; called = called; cut = cut; stage = collects }) → (b : Bool) → Sound (next (loop_goes_on b) (record p { closed = closed; reported = reported; called = called; cut = cut; stage = collects }))
 collecting true true true cut p h b = (h.0, refl, refl, none _ _, refl, refl, refl, refl, none p.unread _, none p.half _, h.10, h.11, none cut _, h.13, h.14, refl, none_2 p.waits (not (not true && p.busy)) ((not true && p.blocked) || (false || (false || will_call p.giver))), h.17, refl, refl)
 collecting true true false cut p h b = (h.0, refl, h.2, none _ _, refl, refl, refl, refl, none p.unread _, none p.half _, h.10, h.11, none cut _, h.13, h.14, h.15, none_2 p.waits (not (not false && p.busy)) ((not true && p.blocked) || (false || (false || will_call p.giver))), h.17, refl, refl)
 collecting true false true cut p h b = (h.0, refl, refl, none _ _, refl, refl, refl, h.7, none p.unread _, none p.half _, h.10, h.11, none cut _, h.13, h.14, refl, none_2 p.waits (not (not true && p.busy)) ((not false && p.blocked) || (false || (false || will_call p.giver))), h.17, refl, refl)
@@ -279,22 +279,22 @@ collecting false false true true p h b = (h.0, refl, refl, refl, refl, refl, ref
 collecting false false true false p h b = (h.0, refl, refl, refl, refl, refl, refl, h.7, refl, refl, h.10, h.11, refl, h.13, h.14, refl, refl, h.17, refl, refl)
 collecting false false false cut p h b = (h.0, refl, h.2, h.3, refl, refl, refl, h.7, h.8, h.9, h.10, h.11, h.12, h.13, h.14, h.15, h.16, h.17, refl, refl)
 
-writing : (blocked : Bool) (p : Loop) → Sound (record p { blocked = blocked; place = writes }) → (b : Bool) → Sound (next (loop_goes_on b) (record p { blocked = blocked; place = writes }))
+writing : (blocked : Bool) (p : Loop) → Sound (record p { blocked = blocked; stage = writes }) → (b : Bool) → Sound (next (loop_goes_on b) (record p { blocked = blocked; stage = writes }))
 writing true p h b = (h.0, h.1, h.2, yes _, h.4, h.5, h.6, h.7, h.8, h.9, h.10, h.11, h.12, h.13, h.14, h.15, h.16, h.17, h.18, h.19)
 writing false p h true = (h.0, h.1, h.2, h.3, h.4, h.5, h.6, h.7, h.8, h.9, h.10, h.11, h.12, h.13, h.14, h.15, h.16, h.17, h.18, h.19)
 writing false p h false = (h.0, h.1, h.2, yes _, h.4, h.5, h.6, refl, refl, refl, h.10, h.11, h.12, h.13, h.14, h.15, refl, h.17, h.18, h.19)
 
-taking : (n : ℕ) (p : Loop) → Sound (record p { in_ring = n; place = takes }) → (b : Bool) → Sound (next (loop_goes_on b) (record p { in_ring = n; place = takes }))
+taking : (n : ℕ) (p : Loop) → Sound (record p { in_ring = n; stage = takes }) → (b : Bool) → Sound (next (loop_goes_on b) (record p { in_ring = n; stage = takes }))
 taking zero p h b = (h.0, h.1, h.2, refl, h.4, h.5, h.6, h.7, h.8, h.9, h.10, h.11, h.12, h.13, h.14, h.15, h.16, h.17, h.18, h.19)
 taking (suc n) p h b = (h.0, h.1, h.2, refl, h.4, h.5, h.6, h.7, h.8, h.9, h.10, h.11, h.12, h.13, h.14, h.15, h.16, h.17, h.18, h.19)
 
-seeing : (holds parted : Bool) (p : Loop) → Sound (record p { holds = holds; parted = parted; place = looks }) → (b : Bool) → Sound (next (loop_goes_on b) (record p { holds = holds; parted = parted; place = looks }))
+seeing : (holds has_left : Bool) (p : Loop) → Sound (record p { holds = holds; has_left = has_left; stage = looks }) → (b : Bool) → Sound (next (loop_goes_on b) (record p { holds = holds; has_left = has_left; stage = looks }))
 seeing true false p h b = (h.0, h.1, h.2, refl, h.4, h.5, h.6, h.7, h.8, h.9, h.10, h.11, h.12, h.13, h.14, h.15, h.16, h.17, h.18, h.19)
 seeing true true p h b = (h.0, h.1, h.2, nothing_left p.in_ring _ _ h.3, h.4, h.5, h.6, h.7, h.8, h.9, h.10, h.11, h.12, h.13, h.14, h.15, h.16, h.17, h.18, h.19)
 seeing false true p h b = (h.0, h.1, h.2, nothing_left p.in_ring _ _ h.3, h.4, h.5, h.6, h.7, h.8, h.9, h.10, h.11, h.12, h.13, h.14, h.15, h.16, h.17, h.18, h.19)
 seeing false false p h b = (h.0, h.1, h.2, nothing_held p.giver p.in_ring p.held _ _ h.0 h.3, h.4, h.5, h.6, h.7, h.8, h.9, h.10, h.11, h.12, h.13, h.14, h.15, h.16, h.17, h.18, h.19)
 
-refilling : (x : Giver) (p : Loop) → Sound (record p { giver = x; place = refills }) → (b : Bool) → Sound (next (loop_goes_on b) (record p { giver = x; place = refills }))
+refilling : (x : Giver) (p : Loop) → Sound (record p { giver = x; stage = refills }) → (b : Bool) → Sound (next (loop_goes_on b) (record p { giver = x; stage = refills }))
 refilling idle p h b = h
 refilling refused p h b = h
 refilling marked p h b = h
@@ -302,35 +302,35 @@ refilling sent p h b = h
 refilling calls p h b = h
 refilling tells p h b = h
 
-checking_busy : (ended called waits : Bool) (p : Loop) → Sound (record p { ended = ended; called = called; waits = waits; done = false; busy = true; place = checks }) → (b : Bool) → Sound (next (loop_goes_on b) (record p { ended = ended; called = called; waits = waits; done = false; busy = true; place = checks }))
+checking_busy : (ended called waits : Bool) (p : Loop) → Sound (record p { ended = ended; called = called; waits = waits; done = false; busy = true; stage = checks }) → (b : Bool) → Sound (next (loop_goes_on b) (record p { ended = ended; called = called; waits = waits; done = false; busy = true; stage = checks }))
 checking_busy ended called false p h b = no h.15
 checking_busy true false true p h b = (h.0, h.1, h.2, h.3, h.4, h.5, h.6, h.7, h.8, h.9, h.10, h.11, h.12, h.13, h.14, h.15, h.16, h.17, h.18, refl)
 checking_busy true true true p h b = (h.0, h.1, h.2, h.3, h.4, refl, refl, h.7, yes_2 _ p.ready, yes_4 _ p.ready p.blocked p.reported, h.10, h.11, h.12, h.13, h.14, h.15, refl, h.17, refl, refl)
 checking_busy false called true p h b = (h.0, h.1, h.2, h.3, h.4, refl, refl, h.7, yes_2 _ p.ready, unlearnt p.half p.ready _ _ h.10, h.10, h.11, h.12, h.13, h.14, h.15, refl, h.17, refl, refl)
 
-checking : (done busy holds parted : Bool) (p : Loop) → Sound (record p { done = done; busy = busy; holds = holds; parted = parted; place = checks }) → (b : Bool) → Sound (next (loop_goes_on b) (record p { done = done; busy = busy; holds = holds; parted = parted; place = checks }))
-checking true busy holds parted p h b = (h.0, h.1, h.2, h.3, h.4, h.5, h.6, h.7, h.8, h.9, h.10, h.11, h.12, h.13, h.14, h.15, h.16, h.17, refl, refl)
-checking false true holds parted p h b = checking_busy p.ended p.called p.waits (record p { holds = holds; parted = parted }) h b
+checking : (done busy holds has_left : Bool) (p : Loop) → Sound (record p { done = done; busy = busy; holds = holds; has_left = has_left; stage = checks }) → (b : Bool) → Sound (next (loop_goes_on b) (record p { done = done; busy = busy; holds = holds; has_left = has_left; stage = checks }))
+checking true busy holds has_left p h b = (h.0, h.1, h.2, h.3, h.4, h.5, h.6, h.7, h.8, h.9, h.10, h.11, h.12, h.13, h.14, h.15, h.16, h.17, refl, refl)
+checking false true holds has_left p h b = checking_busy p.ended p.called p.waits (record p { holds = holds; has_left = has_left }) h b
 checking false false true true p h b = no h.17
 checking false false true false p h b = (h.0, h.1, h.2, h.3, h.4, refl, refl, h.7, due_unread (not p.closed) (p.blocked || (p.reported || (p.called || will_call p.giver))) (flagged p.in_ring p.held (not p.closed) _ h.3) p.unread p.ready p.waits, due_half (not p.closed) (p.blocked || (p.reported || (p.called || will_call p.giver))) (flagged p.in_ring p.held (not p.closed) _ h.3) p.half p.ready, h.10, h.11, h.12, h.13, h.14, h.15, due_waits (not p.closed) (p.blocked || (p.reported || (p.called || will_call p.giver))) (flagged p.in_ring p.held (not p.closed) _ h.3) p.waits (not false), h.17, refl, refl)
-checking false false false parted p h b = (h.0, h.1, h.2, h.3, h.4, h.5, h.6, h.7, h.8, h.9, h.10, h.11, h.12, h.13, h.14, h.15, h.16, h.17, refl, refl)
+checking false false false has_left p h b = (h.0, h.1, h.2, h.3, h.4, h.5, h.6, h.7, h.8, h.9, h.10, h.11, h.12, h.13, h.14, h.15, h.16, h.17, refl, refl)
 
-submitting : (waits done busy half : Bool) (p : Loop) → Sound (record p { waits = waits; done = done; busy = busy; half = half; place = submits }) → (b : Bool) → Sound (next (loop_goes_on b) (record p { waits = waits; done = done; busy = busy; half = half; place = submits }))
+submitting : (waits done busy half : Bool) (p : Loop) → Sound (record p { waits = waits; done = done; busy = busy; half = half; stage = submits }) → (b : Bool) → Sound (next (loop_goes_on b) (record p { waits = waits; done = done; busy = busy; half = half; stage = submits }))
 submitting waits true busy half p h b = no h.18
 submitting waits false true half p h b = no h.18
 submitting true false false half p h true = (h.0, h.1, h.2, refl, h.4, h.5, h.6, h.7, refl, refl, h.10, h.11, h.12, h.13, refl, refl, refl, h.17, refl, h.19)
 submitting true false false half p h false = h
-submitting false false false true p h true = (h.0, h.1, h.2, h.3, h.4, h.5, h.6, h.7, h.8, h.9, h.10, h.11, h.12, h.13, refl, h.15, h.16, yes p.parted, refl, refl)
+submitting false false false true p h true = (h.0, h.1, h.2, h.3, h.4, h.5, h.6, h.7, h.8, h.9, h.10, h.11, h.12, h.13, refl, h.15, h.16, yes p.has_left, refl, refl)
 submitting false false false false p h true = (h.0, h.1, h.2, h.3, h.4, refl, refl, h.7, refl, refl, h.10, h.11, h.12, h.13, h.14, h.15, refl, h.17, refl, refl)
 submitting false false false half p h false = (h.0, h.1, h.2, refl, h.4, h.5, h.6, h.7, h.8, h.9, h.10, h.11, h.12, h.13, h.14, h.15, h.16, h.17, refl, h.19)
 
-ending : (blocked parted holds done busy waits : Bool) (p : Loop) → Sound (record p { blocked = blocked; parted = parted; holds = holds; done = done; busy = busy; waits = waits; place = ends }) → (b : Bool) → Sound (next (loop_goes_on b) (record p { blocked = blocked; parted = parted; holds = holds; done = done; busy = busy; waits = waits; place = ends }))
-ending true parted holds done busy waits p h b = (h.0, h.1, h.2, h.3, h.4, refl, refl, h.7, yes_3 _ p.ready waits, yes_2 _ p.ready, h.10, h.11, h.12, h.13, h.14, h.15, yes _, h.17, refl, refl)
+ending : (blocked has_left holds done busy waits : Bool) (p : Loop) → Sound (record p { blocked = blocked; has_left = has_left; holds = holds; done = done; busy = busy; waits = waits; stage = ends }) → (b : Bool) → Sound (next (loop_goes_on b) (record p { blocked = blocked; has_left = has_left; holds = holds; done = done; busy = busy; waits = waits; stage = ends }))
+ending true has_left holds done busy waits p h b = (h.0, h.1, h.2, h.3, h.4, refl, refl, h.7, yes_3 _ p.ready waits, yes_2 _ p.ready, h.10, h.11, h.12, h.13, h.14, h.15, yes _, h.17, refl, refl)
 ending false true holds done busy waits p h b = (h.0, h.1, h.2, none _ _, h.4, refl, refl, h.7, none p.unread _, none p.half _, h.10, h.11, none p.cut _, h.13, h.14, h.15, none_2 waits (not busy) (false || (p.reported || (p.called || will_call p.giver))), h.17, refl, refl)
 ending false false true done busy waits p h b = (h.0, h.1, h.2, h.3, h.4, refl, refl, h.7, due_unread (not p.closed) (false || (p.reported || (p.called || will_call p.giver))) (flagged p.in_ring p.held (not p.closed) _ h.3) p.unread p.ready waits, due_half (not p.closed) (false || (p.reported || (p.called || will_call p.giver))) (flagged p.in_ring p.held (not p.closed) _ h.3) p.half p.ready, h.10, h.11, h.12, h.13, h.14, h.15, due_waits (not p.closed) (false || (p.reported || (p.called || will_call p.giver))) (flagged p.in_ring p.held (not p.closed) _ h.3) waits (not busy), h.17, refl, refl)
 ending false false false done busy waits p h b = (h.0, h.1, h.2, refl, h.4, h.5, h.6, h.7, h.8, h.9, h.10, h.11, yes_2 _ p.reported, h.13, h.14, h.15, h.16, h.17, refl, refl)
 
-parting : (x : Giver) (cut : Bool) (p : Loop) → Sound (record p { giver = x; cut = cut; place = parts }) → (b : Bool) → Sound (next (loop_goes_on b) (record p { giver = x; cut = cut; place = parts }))
+parting : (x : Giver) (cut : Bool) (p : Loop) → Sound (record p { giver = x; cut = cut; stage = leaves }) → (b : Bool) → Sound (next (loop_goes_on b) (record p { giver = x; cut = cut; stage = leaves }))
 parting idle true p h b = (refl, h.1, refl, none _ _, h.4, refl, refl, h.7, none p.unread _, none p.half _, h.10, h.11, refl, refl, refl, refl, refl, refl, refl, refl)
 parting idle false p h b = (refl, h.1, refl, refl, h.4, refl, refl, h.7, refl, refl, h.10, h.11, refl, refl, refl, refl, refl, refl, refl, refl)
 parting refused cut p h b = h
@@ -340,33 +340,33 @@ parting calls cut p h b = h
 parting tells cut p h b = h
 
 -- the poll is asked; no session is reported by then that wasn't looked at
-asking : (b reported ready ended cut : Bool) (p : Loop) → Sound (record p { reported = reported; ready = ready; ended = ended; cut = cut; place = lies_down }) → Sound (polled b (record p { reported = reported; ready = ready; ended = ended; cut = cut }))
+asking : (b reported ready ended cut : Bool) (p : Loop) → Sound (record p { reported = reported; ready = ready; ended = ended; cut = cut; stage = lies_down }) → Sound (polled b (record p { reported = reported; ready = ready; ended = ended; cut = cut }))
 asking b true ready ended cut p h = no h.4
 asking true false true ended cut p h = (h.0, h.1, h.2, yes_2 _ p.blocked, refl, refl, refl, yes_2 p.blocked p.full, yes_3 _ p.waits p.blocked, yes_2 _ p.blocked, learns p.half ended, learns p.over cut, yes _, h.13, h.14, h.15, yes_2 _ p.blocked, h.17, h.18, h.19)
 asking true false false ended cut p h = (h.0, h.1, h.2, h.3, refl, refl, refl, h.7, h.8, h.9, learnt p.half ended h.10, learnt p.over cut h.11, cut_before cut _ _ h.12, h.13, h.14, h.15, h.16, h.17, h.18, h.19)
 asking false false ready ended cut p h = (h.0, h.1, h.2, h.3, refl, refl, refl, h.7, h.8, h.9, h.10, h.11, h.12, h.13, h.14, h.15, h.16, h.17, h.18, h.19)
 
-lying : (any : Bool) (p : Loop) → Sound (record p { any = any; place = looks_again }) → (b : Bool) → Sound (next (loop_goes_on b) (record p { any = any; place = looks_again }))
-lying true p h b = asking b p.reported p.ready p.ended p.cut (record p { any = true; place = looks_again }) (h.0, h.1, h.2, h.3, h.4, refl, refl, h.7, h.8, h.9, h.10, h.11, h.12, h.13, h.14, h.15, h.16, h.17, h.18, h.19)
+lying : (any : Bool) (p : Loop) → Sound (record p { any = any; stage = looks_again }) → (b : Bool) → Sound (next (loop_goes_on b) (record p { any = any; stage = looks_again }))
+lying true p h b = asking b p.reported p.ready p.ended p.cut (record p { any = true; stage = looks_again }) (h.0, h.1, h.2, h.3, h.4, refl, refl, h.7, h.8, h.9, h.10, h.11, h.12, h.13, h.14, h.15, h.16, h.17, h.18, h.19)
 lying false p h b = (h.0, h.1, h.2, h.3, h.4, h.5, refl, h.7, h.8, h.9, h.10, h.11, h.12, h.13, h.14, h.15, h.16, h.17, h.18, h.19)
 
-going : (b : Bool) (x : Place) (p : Loop) → Sound (record p { place = x }) → Sound (next (loop_goes_on b) (record p { place = x }))
+going : (b : Bool) (x : Stage) (p : Loop) → Sound (record p { stage = x }) → Sound (next (loop_goes_on b) (record p { stage = x }))
 going b begins p h = (h.0, yes_2 p.called (is_telling p.giver), h.2, h.3, h.4, refl, refl, h.7, h.8, h.9, h.10, h.11, h.12, h.13, h.14, h.15, h.16, h.17, h.18, h.19)
 going b collects p h = collecting p.closed p.reported p.called p.cut p h b
 going b writes p h = writing p.blocked p h b
 going b takes p h = taking p.in_ring p h b
-going b looks p h = seeing p.holds p.parted p h b
+going b looks p h = seeing p.holds p.has_left p h b
 going b refills p h = refilling p.giver p h b
-going b checks p h = checking p.done p.busy p.holds p.parted p h b
+going b checks p h = checking p.done p.busy p.holds p.has_left p h b
 going b submits p h = submitting p.waits p.done p.busy p.half p h b
-going b ends p h = ending p.blocked p.parted p.holds p.done p.busy p.waits p h b
-going b parts p h = parting p.giver p.cut p h b
+going b ends p h = ending p.blocked p.has_left p.holds p.done p.busy p.waits p h b
+going b leaves p h = parting p.giver p.cut p h b
 going b lies_down p h = (h.0, h.1, h.2, h.3, h.4, refl, refl, h.7, h.8, h.9, h.10, h.11, h.12, h.13, h.14, h.15, h.16, h.17, h.18, h.19)
 going b looks_again p h = lying p.any p h b
-going b sleeps p h = asking b p.reported p.ready p.ended p.cut (record p { place = sleeps }) (h.0, h.1, h.2, h.3, h.4, refl, refl, h.7, h.8, h.9, h.10, h.11, h.12, h.13, h.14, h.15, h.16, h.17, h.18, h.19)
+going b sleeps p h = asking b p.reported p.ready p.ended p.cut (record p { stage = sleeps }) (h.0, h.1, h.2, h.3, h.4, refl, refl, h.7, h.8, h.9, h.10, h.11, h.12, h.13, h.14, h.15, h.16, h.17, h.18, h.19)
 going b rises p h = (h.0, h.1, h.2, h.3, h.4, refl, refl, h.7, h.8, h.9, h.10, h.11, h.12, h.13, h.14, h.15, h.16, h.17, h.18, h.19)
 
-meeting : (x : Place) (done : Bool) (p : Loop) → Sound (record p { place = x; done = done }) → Sound (next meets_busy (record p { place = x; done = done }))
+meeting : (x : Stage) (done : Bool) (p : Loop) → Sound (record p { stage = x; done = done }) → Sound (next meets_busy (record p { stage = x; done = done }))
 meeting begins done p h = h
 meeting collects done p h = h
 meeting writes done p h = h
@@ -375,7 +375,7 @@ meeting looks done p h = h
 meeting refills done p h = h
 meeting checks done p h = h
 meeting ends done p h = h
-meeting parts done p h = h
+meeting leaves done p h = h
 meeting lies_down done p h = h
 meeting looks_again done p h = h
 meeting sleeps done p h = h
@@ -384,9 +384,9 @@ meeting submits true p h = no h.18
 meeting submits false p h = (h.0, h.1, refl, refl, h.4, h.5, h.6, h.7, refl, refl, h.10, h.11, h.12, h.13, refl, refl, refl, h.17, refl, refl)
 
 sound-next : (s : Step) (p : Loop) → Sound p → Sound (next s p)
-sound-next (puts room) p h = putting room p.giver p.held p.parted p h
-sound-next (flushes room) p h = flushing room p.giver p.held p.parted p h
-sound-next (giver_goes_on room) p h = giving room p.giver p.held p.holds p.parted p h
+sound-next (puts room) p h = putting room p.giver p.held p.has_left p h
+sound-next (flushes room) p h = flushing room p.giver p.held p.has_left p h
+sound-next (giver_goes_on room) p h = giving room p.giver p.held p.holds p.has_left p h
 sound-next calls_another p h = (h.0, yes p.called, h.2, h.3, h.4, h.5, yes _, h.7, h.8, h.9, h.10, h.11, h.12, h.13, h.14, h.15, h.16, h.17, h.18, h.19)
 sound-next giver_looks p h = looking p.looking p.any p h
 sound-next giver_swaps p h = swapping p.swapping p.asleep p h
@@ -395,9 +395,9 @@ sound-next peer_takes p h = peer_taking p.over p h
 sound-next peer_sends p h = peer_sending p.half p.over p h
 sound-next peer_ends p h = (h.0, h.1, h.2, h.3, h.4, h.5, h.6, yes_2 p.blocked p.full, yes _, yes _, refl, yes p.over, h.12, h.13, h.14, h.15, h.16, h.17, h.18, h.19)
 sound-next peer_goes p h = (h.0, h.1, h.2, h.3, h.4, h.5, h.6, yes_2 p.blocked p.full, yes _, yes _, yes p.half, refl, h.12, h.13, h.14, h.15, h.16, h.17, h.18, h.19)
-sound-next cuts_off p h = cutting p.place p.closed p h
-sound-next (loop_goes_on b) p h = going b p.place p h
-sound-next meets_busy p h = meeting p.place p.done p h
+sound-next cuts_off p h = cutting p.stage p.closed p h
+sound-next (loop_goes_on b) p h = going b p.stage p h
+sound-next meets_busy p h = meeting p.stage p.done p h
 
 sound-run : (steps : List Step) (p : Loop) → Sound p → Sound (fold (λ p s. next s p) p steps)
 sound-run [] p h = h
@@ -410,9 +410,9 @@ sound-after steps = sound-run steps begun (refl, refl, refl, refl, refl, refl, r
 
 -- what is so while the loop sleeps, and nothing of the session is reported or to be reported
 abbrev Rests : Loop → Type 0
-Rests p = Sound (record p { ready = false; reported = false; token = false; place = sleeps })
+Rests p = Sound (record p { ready = false; reported = false; token = false; stage = sleeps })
 
-resting : (x : Place) (token ready reported : Bool) (p : Loop) → Sound (record p { place = x; token = token; ready = ready; reported = reported }) → is_asleep (record p { place = x; token = token; ready = ready; reported = reported }) ≡ true → Rests p
+resting : (x : Stage) (token ready reported : Bool) (p : Loop) → Sound (record p { stage = x; token = token; ready = ready; reported = reported }) → is_asleep (record p { stage = x; token = token; ready = ready; reported = reported }) ≡ true → Rests p
 resting begins token ready reported p h asleep = no asleep
 resting collects token ready reported p h asleep = no asleep
 resting writes token ready reported p h asleep = no asleep
@@ -422,7 +422,7 @@ resting refills token ready reported p h asleep = no asleep
 resting checks token ready reported p h asleep = no asleep
 resting submits token ready reported p h asleep = no asleep
 resting ends token ready reported p h asleep = no asleep
-resting parts token ready reported p h asleep = no asleep
+resting leaves token ready reported p h asleep = no asleep
 resting lies_down token ready reported p h asleep = no asleep
 resting looks_again token ready reported p h asleep = no asleep
 resting rises token ready reported p h asleep = no asleep
@@ -434,7 +434,7 @@ resting sleeps false false false p h asleep = h
 rests-after : (steps : List Step) → (let p = fold (λ p s. next s p) begun steps in is_asleep p ≡ true → Rests p)
 rests-after steps =
     let p : Loop = fold (λ p s. next s p) begun steps in
-    resting p.place p.token p.ready p.reported p (sound-after steps)
+    resting p.stage p.token p.ready p.reported p (sound-after steps)
 
 is_woken : (x : Giver) (called any asleep : Bool) (l s w : ℕ) → (called || will_call x) ≡ true → implies called (any || (is_telling x || false)) ≡ true → (asleep || (some w || false)) ≡ true → implies any (some l || (some s || (some w || false))) ≡ true → (will_tell x || (some w || (asleep && (some s || (any && some l))))) ≡ true
 is_woken refused called any asleep l s w e f g h = refl
@@ -454,11 +454,11 @@ is_woken idle true true true zero zero zero e f g h = no h
 wakes : (p : Loop) → Rests p → (p.called || will_call p.giver) ≡ true → is_to_wake p ≡ true
 wakes p r e = is_woken p.giver p.called p.any p.asleep p.looking p.swapping p.waking e r.1 r.5 r.6
 
-due_message : (n : ℕ) (held holds parted closed blocked i c : Bool) → closed ≡ false → (not blocked && (some n || held)) ≡ true → implies ((some n || (not parted && (held || holds))) && not closed) (blocked || (false || c)) ≡ true → implies parted (i && not held) ≡ true → c ≡ true
-due_message n held holds parted true blocked i c f e h g = no (sym f)
-due_message n held holds parted false true i c f e h g = no e
-due_message (suc n) held holds parted false false i c f e h g = h
-due_message zero false holds parted false false i c f e h g = no e
+due_message : (n : ℕ) (held holds has_left closed blocked i c : Bool) → closed ≡ false → (not blocked && (some n || held)) ≡ true → implies ((some n || (not has_left && (held || holds))) && not closed) (blocked || (false || c)) ≡ true → implies has_left (i && not held) ≡ true → c ≡ true
+due_message n held holds has_left true blocked i c f e h g = no (sym f)
+due_message n held holds has_left false true i c f e h g = no e
+due_message (suc n) held holds has_left false false i c f e h g = h
+due_message zero false holds has_left false false i c f e h g = no e
 due_message zero true holds false false false i c f e h g = h
 due_message zero true holds true false false true c f e h g = no g
 due_message zero true holds true false false false c f e h g = no g
@@ -467,7 +467,7 @@ pub no_message_is_left : NoMessageIsLeft
 no_message_is_left steps asleep is_open here =
     let p : Loop = fold (λ p s. next s p) begun steps in
     let r : Rests p = rests-after steps asleep in
-    wakes p r (due_message p.in_ring p.held p.holds p.parted p.closed p.blocked (is_idle p.giver) _ is_open here r.3 r.13)
+    wakes p r (due_message p.in_ring p.held p.holds p.has_left p.closed p.blocked (is_idle p.giver) _ is_open here r.3 r.13)
 
 due_request : (waits given busy closed blocked c : Bool) → closed ≡ false → (not blocked && (waits && given)) ≡ true → implies (busy && given) c ≡ true → implies (waits && (not busy && not closed)) (blocked || (false || c)) ≡ true → c ≡ true
 due_request waits given busy true blocked c f e g h = no (sym f)

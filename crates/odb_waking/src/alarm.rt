@@ -1,35 +1,35 @@
 //! What the pump sleeps by. [P 15.2]
 ghost use Rattle.std.specs.Prelude.{◌≡◌, false, true, if◌then◌else◌};
-ghost use Rattle.odb_waking.specs.Pump.{begins, decides, forgets, gives, lies_down, looks_again, next_place, rests, sleeps};
+ghost use Rattle.odb_waking.specs.Pump.{begins, decides, forgets, gives, lies_down, looks_again, next_stage, pauses, sleeps};
 ghost use Rattle.odb_waking.specs.Teller.{calls, done, looks, tells, wakes};
 
-use crate::place::{PumpPlace, PumpStep, TellerPlace, TellerStep};
+use crate::stage::{PumpStage, PumpStep, TellerStage, TellerStep};
 use std::sync::Wait;
 use std::sync::atomic::{AtomicU64, Ordering};
 use std::thread::Parker;
 use std::time::Duration;
 
-/// What a call adds to what the pump was told: more than it is told in one rest.
+/// What a call adds to what is signaled to the pump: more than is signaled in one pause.
 pub const CALLED: u64 = 4_294_967_296;
 
-/// What the pump sleeps by: the flags that say that it is awake and what it was told, and its parker. Its calls take the
-/// steps of the pump's machine (`specs/Pump.antt`), which loses no wake-up, in its order: each atomic operation stands in a
-/// function of its own, whose contract names the step.
+/// What the pump sleeps by: the flags that say that it is awake and what was signaled, and its parker. Its calls take
+/// the steps of the pump's machine (`specs/Pump.antt`), which loses no wake-up, in its order: each atomic operation
+/// stands in a function of its own, whose contract names the step.
 #[derive(Drop)]
 pub struct Alarm {
     parker: Parker,
     awake: AtomicU64,
-    /// How many requests it was told of since its turn began, and `CALLED` for each call.
-    told: AtomicU64,
+    /// How many requests were signaled to it since its round began, and `CALLED` for each call.
+    signaled: AtomicU64,
 }
 
 impl Alarm {
-    /// Makes that of a pump that is awake and was told nothing.
+    /// Makes that of a pump that is awake and to which nothing was signaled.
     pub fn new() -> Alarm {
         Alarm {
             parker: Parker::new(),
             awake: AtomicU64::new(1),
-            told: AtomicU64::new(0),
+            signaled: AtomicU64::new(0),
         }
     }
 
@@ -38,137 +38,137 @@ impl Alarm {
         self.awake.load(Ordering::SeqCst) == 0
     }
 
-    /// Returns of how many requests the pump was told since its turn began, and `CALLED` more for each call.
-    pub fn told(&self) -> u64 {
-        self.told.load(Ordering::SeqCst)
+    /// Returns how many requests were signaled to the pump since its round began, and `CALLED` more for each call.
+    pub fn signaled(&self) -> u64 {
+        self.signaled.load(Ordering::SeqCst)
     }
 
-    /// Begins a turn, which meets what the pump was told by now.
-    pub fn begin(&self, place: &mut PumpPlace)
-        requires { place.old ≡ begins }
-        ensures { place.new ≡ gives }
+    /// Begins a round, which meets what was signaled by now.
+    pub fn begin(&self, stage: &mut PumpStage)
+        requires { stage.old ≡ begins }
+        ensures { stage.new ≡ gives }
     {
-        self.rise(place);
-        self.forget(place);
+        self.rise(stage);
+        self.forget(stage);
     }
 
     /// Counts the pump as awake.
-    fn rise(&self, place: &mut PumpPlace)
-        requires { place.old ≡ begins }
-        ensures { place.new ≡ next_place false true place.old }
+    fn rise(&self, stage: &mut PumpStage)
+        requires { stage.old ≡ begins }
+        ensures { stage.new ≡ next_stage false true stage.old }
     {
         self.awake.store(1, Ordering::SeqCst);
-        place.next = PumpStep::Forgets;
+        stage.next = PumpStep::Forgets;
     }
 
-    /// Forgets what the pump was told.
-    fn forget(&self, place: &mut PumpPlace)
-        requires { place.old ≡ forgets }
-        ensures { place.new ≡ next_place false true place.old }
+    /// Forgets what was signaled.
+    fn forget(&self, stage: &mut PumpStage)
+        requires { stage.old ≡ forgets }
+        ensures { stage.new ≡ next_stage false true stage.old }
     {
-        self.told.store(0, Ordering::SeqCst);
-        place.next = PumpStep::Gives;
+        self.signaled.store(0, Ordering::SeqCst);
+        stage.next = PumpStep::Gives;
     }
 
-    /// Returns whether the pump was told something since its turn began: then it rests, and else it lies down.
-    pub fn decide(&self, place: &mut PumpPlace) -> bool
-        requires { place.old ≡ decides }
-        ensures { place.new ≡ next_place result true place.old }
+    /// Returns whether something was signaled since its round began: then the pump pauses, and else it lies down.
+    pub fn decide(&self, stage: &mut PumpStage) -> bool
+        requires { stage.old ≡ decides }
+        ensures { stage.new ≡ next_stage result true stage.old }
     {
-        let is_told = self.told() != 0;
-        place.next = if is_told {
-            PumpStep::Rests
+        let is_signaled = self.signaled() != 0;
+        stage.next = if is_signaled {
+            PumpStep::Pauses
         } else {
             PumpStep::LiesDown
         };
-        is_told
+        is_signaled
     }
 
-    /// Rests for so long, or until the pump is called.
-    pub fn rest<R: Wait>(&self, rt: &R, long: Duration, _place: &PumpPlace)
-        requires { _place.now ≡ rests }
+    /// Pauses for so long, or until the pump is called.
+    pub fn pause<R: Wait>(&self, rt: &R, long: Duration, _stage: &PumpStage)
+        requires { _stage.now ≡ pauses }
     {
         self.parker.park_timeout(rt, long);
     }
 
-    /// Sleeps until the pump is told something or called, or `left` is over.
-    pub fn sleep<R: Wait>(&self, rt: &R, left: Option<Duration>, place: &mut PumpPlace)
-        requires { place.old ≡ lies_down }
-        ensures { place.new ≡ begins }
+    /// Sleeps until something is signaled to the pump or it is called, or `left` is over.
+    pub fn sleep<R: Wait>(&self, rt: &R, left: Option<Duration>, stage: &mut PumpStage)
+        requires { stage.old ≡ lies_down }
+        ensures { stage.new ≡ begins }
     {
-        self.lie_down(place);
-        if self.looks_again(place) {
+        self.lie_down(stage);
+        if self.looks_again(stage) {
             return;
         }
-        self.park(rt, left, place);
+        self.park(rt, left, stage);
     }
 
     /// Counts the pump as asleep.
-    fn lie_down(&self, place: &mut PumpPlace)
-        requires { place.old ≡ lies_down }
-        ensures { place.new ≡ next_place false true place.old }
+    fn lie_down(&self, stage: &mut PumpStage)
+        requires { stage.old ≡ lies_down }
+        ensures { stage.new ≡ next_stage false true stage.old }
     {
         self.awake.store(0, Ordering::SeqCst);
-        place.next = PumpStep::LooksAgain;
+        stage.next = PumpStep::LooksAgain;
     }
 
-    /// Returns whether the pump was told something by who found it awake: then its turn begins.
-    fn looks_again(&self, place: &mut PumpPlace) -> bool
-        requires { place.old ≡ looks_again }
-        ensures { place.new ≡ next_place result true place.old }
+    /// Returns whether something was signaled by who found it awake: then its round begins.
+    fn looks_again(&self, stage: &mut PumpStage) -> bool
+        requires { stage.old ≡ looks_again }
+        ensures { stage.new ≡ next_stage result true stage.old }
     {
-        let is_told = self.told() != 0;
-        place.next = if is_told {
+        let is_signaled = self.signaled() != 0;
+        stage.next = if is_signaled {
             PumpStep::Begins
         } else {
             PumpStep::Sleeps
         };
-        is_told
+        is_signaled
     }
 
-    fn park<R: Wait>(&self, rt: &R, left: Option<Duration>, place: &mut PumpPlace)
-        requires { place.old ≡ sleeps }
-        ensures { place.new ≡ next_place false true place.old }
+    fn park<R: Wait>(&self, rt: &R, left: Option<Duration>, stage: &mut PumpStage)
+        requires { stage.old ≡ sleeps }
+        ensures { stage.new ≡ next_stage false true stage.old }
     {
         match left {
             Some(left) => self.parker.park_timeout(rt, left),
             None => self.parker.park(rt),
         }
-        place.next = PumpStep::Begins;
+        stage.next = PumpStep::Begins;
     }
 
     /// Tells the pump that sessions may be owed something by so many requests, one or more, and wakes it if it sleeps.
     pub fn tell(&self, requests: u64) {
-        let mut place = TellerPlace::of_what_is_owed();
-        self.add(requests, &mut place);
-        if self.finds_asleep(&mut place) {
-            self.unpark(&mut place);
+        let mut stage = TellerStage::of_what_is_owed();
+        self.add(requests, &mut stage);
+        if self.finds_asleep(&mut stage) {
+            self.unpark(&mut stage);
         }
-        place.end();
+        stage.end();
     }
 
-    /// Lets the pump go on at once, also if it rests.
+    /// Lets the pump go on at once, also if it pauses.
     pub fn call(&self) {
-        let mut place = TellerPlace::of_what_is_due();
-        self.add_call(&mut place);
-        self.unpark(&mut place);
-        place.end();
+        let mut stage = TellerStage::of_what_is_due();
+        self.add_call(&mut stage);
+        self.unpark(&mut stage);
+        stage.end();
     }
 
-    fn add(&self, requests: u64, place: &mut TellerPlace)
-        requires { place.old ≡ tells }
-        ensures { place.new ≡ looks }
+    fn add(&self, requests: u64, stage: &mut TellerStage)
+        requires { stage.old ≡ tells }
+        ensures { stage.new ≡ looks }
     {
-        self.told.fetch_add(requests, Ordering::SeqCst);
-        place.next = TellerStep::Looks;
+        self.signaled.fetch_add(requests, Ordering::SeqCst);
+        stage.next = TellerStep::Looks;
     }
 
-    fn finds_asleep(&self, place: &mut TellerPlace) -> bool
-        requires { place.old ≡ looks }
-        ensures { place.new ≡ (if result then wakes else done) }
+    fn finds_asleep(&self, stage: &mut TellerStage) -> bool
+        requires { stage.old ≡ looks }
+        ensures { stage.new ≡ (if result then wakes else done) }
     {
         let sleeps = self.sleeps();
-        place.next = if sleeps {
+        stage.next = if sleeps {
             TellerStep::Wakes
         } else {
             TellerStep::Done
@@ -176,19 +176,19 @@ impl Alarm {
         sleeps
     }
 
-    fn add_call(&self, place: &mut TellerPlace)
-        requires { place.old ≡ calls }
-        ensures { place.new ≡ wakes }
+    fn add_call(&self, stage: &mut TellerStage)
+        requires { stage.old ≡ calls }
+        ensures { stage.new ≡ wakes }
     {
-        self.told.fetch_add(CALLED, Ordering::SeqCst);
-        place.next = TellerStep::Wakes;
+        self.signaled.fetch_add(CALLED, Ordering::SeqCst);
+        stage.next = TellerStep::Wakes;
     }
 
-    fn unpark(&self, place: &mut TellerPlace)
-        requires { place.old ≡ wakes }
-        ensures { place.new ≡ done }
+    fn unpark(&self, stage: &mut TellerStage)
+        requires { stage.old ≡ wakes }
+        ensures { stage.new ≡ done }
     {
         self.parker.unpark();
-        place.next = TellerStep::Done;
+        stage.next = TellerStep::Done;
     }
 }

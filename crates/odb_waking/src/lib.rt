@@ -5,10 +5,10 @@ ghost use Rattle.odb_waking.specs.Loop.{NoEndIsLeft, NoMessageIsLeft, NoRequestI
 ghost use Rattle.odb_waking.specs.Pump.{NoPumpOversleeps};
 
 mod alarm;
-mod place;
+mod stage;
 
 pub use alarm::{Alarm, CALLED};
-pub use place::{GiverPlace, LoopPlace, PumpPlace, RouserPlace};
+pub use stage::{GiverStage, LoopStage, PumpStage, RouserStage};
 
 /// States that no wake-up and no end of a connection is lost, whatever the threads do and in which order. The call does nothing.
 pub fn law()

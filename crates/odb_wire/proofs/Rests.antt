@@ -2,9 +2,9 @@
 use Rattle.std.proofs.Common.{◌≡◌, ℕ, ◌≤◌, ◌<◌, ◌+◌, ◌-◌, ◌++◌, ◌==◌, true, false, List, [], ◌∷◌, Some, None, option_map, map, refl, ap, subst, ◌∙◌, sym, length, get_or, take, arith, min}
 use Rattle.std.proofs.lemmas.List.{length-take, length-append, take_all, append-nil}
 use Rattle.std.proofs.Math.Seq.{take-append-add}
-use Rattle.odb_wire.specs.Stream.{Place, outside, closed_at, front_of, whole, too_long, goes_on, messages}
+use Rattle.odb_wire.specs.Stream.{ScanState, outside, closed_at, front_of, whole, too_long, goes_on, messages}
 use Rattle.odb_wire.specs.Stream as stream
-use Rattle.odb_wire.specs.Scanning.{place_of, GoesOn, IsEnd}
+use Rattle.odb_wire.specs.Scanning.{state_of, GoesOn, IsEnd}
 use Rattle.odb_wire.specs.Shown.{message_data}
 use Rattle.odb_wire.specs.Feeding.{fault_of}
 use Rattle.odb_wire.specs.Standing.{IsUnfinished, IsRest, IsStanding, ReadsOn, messages_after}
@@ -35,20 +35,20 @@ brace-more (c ∷ cs) more is = is
 
 -- the piece has the end
 pub front_of-completed : (most : ℕ) (text piece last : List ℕ) (scan : Scan) (m n : ℕ) → IsUnfinished most text scan → m ≤ most - length text
-    → IsEnd (place_of scan.place) scan.depth (take m piece) n → last ≡ take n piece → front_of most (text ++ last) ≡ whole (text ++ last)
+    → IsEnd (state_of scan.state) scan.depth (take m piece) n → last ≡ take n piece → front_of most (text ++ last) ≡ whole (text ++ last)
 front_of-completed most text piece last scan m n begun room end e =
     let same : take n (take m piece) ≡ take n piece = take_within m piece n end.within in
-    let alone : closed_at (place_of scan.place) scan.depth (take n piece) ≡ Some (take n piece) =
-    closed_at-text (place_of scan.place) scan.depth (take m piece) (take n piece) (end.closed ∙ ap (λ t. Some t) same) in
+    let alone : closed_at (state_of scan.state) scan.depth (take n piece) ≡ Some (take n piece) =
+    closed_at-text (state_of scan.state) scan.depth (take m piece) (take n piece) (end.closed ∙ ap (λ t. Some t) same) in
     let closed : closed_at outside 0 (text ++ take n piece) ≡ Some (text ++ take n piece) = begun.further.further (take n piece) ∙ ap (option_map (λ t. text ++ t)) alone in
     let fits : length (text ++ take n piece) ≤ most = omega (arith, length-append text (take n piece), length-take n piece, length-take m piece, end.within, room, begun.short) in
     subst (λ (u : List ℕ). front_of most (text ++ u) ≡ whole (text ++ u)) (sym e) (front_of-text most (text ++ take n piece) (brace-more text (take n piece) begun.brace) fits closed)
 
 -- it has none, and as many bytes as a message may have are there
-pub reads_too_long : (most : ℕ) (text piece : List ℕ) (scan : Scan) (m : ℕ) (p : Place) (d : ℕ) (none : List Message) → IsUnfinished most text scan → m ≡ min (length piece) (most - length text)
-    → most - length text ≤ length piece → GoesOn (place_of scan.place) scan.depth (take m piece) p d → none ≡ [] → ReadsOn most [] (text ++ piece) (map message_data none) (Stopped fault.TooLong)
+pub reads_too_long : (most : ℕ) (text piece : List ℕ) (scan : Scan) (m : ℕ) (p : ScanState) (d : ℕ) (none : List Message) → IsUnfinished most text scan → m ≡ min (length piece) (most - length text)
+    → most - length text ≤ length piece → GoesOn (state_of scan.state) scan.depth (take m piece) p d → none ≡ [] → ReadsOn most [] (text ++ piece) (map message_data none) (Stopped fault.TooLong)
 reads_too_long most text piece scan m p d none begun is_m long goes empty =
-    let all : GoesOn outside 0 (text ++ take m piece) p d = goes_on-both outside 0 text (place_of scan.place) scan.depth (take m piece) p d begun.further goes in
+    let all : GoesOn outside 0 (text ++ take m piece) p d = goes_on-both outside 0 text (state_of scan.state) scan.depth (take m piece) p d begun.further goes in
     let size : length text + m ≡ most = omega (arith, is_m, long, begun.short) in
     let front : take most (text ++ piece) ≡ text ++ take m piece = ap (λ j. take j (text ++ piece)) (sym size) ∙ take-append-add text piece m in
     let unclosed : closed_at outside 0 (take most (text ++ piece)) ≡ None = ap (closed_at outside 0) front ∙ goes_on-unclosed outside 0 (text ++ take m piece) p d all in
@@ -57,13 +57,13 @@ reads_too_long most text piece scan m p d none begun is_m long goes empty =
 
 -- it has none, and the message goes on
 pub reads_on : (most : ℕ) (text piece : List ℕ) (scan : Scan) (m : ℕ) (rest : Unfinished) (none : List Message) → IsUnfinished most text scan → m ≡ min (length piece) (most - length text)
-    → length piece < most - length text → GoesOn (place_of scan.place) scan.depth (take m piece) (place_of rest.scan.place) rest.scan.depth
+    → length piece < most - length text → GoesOn (state_of scan.state) scan.depth (take m piece) (state_of rest.scan.state) rest.scan.depth
     → rest.scan.depth ≤ scan.depth + length (take m piece) → rest.text.items ≡ text ++ piece → none ≡ [] → ReadsOn most [] (text ++ piece) (map message_data none) (Going rest)
 reads_on most text piece scan m rest none begun is_m short goes bound is_text empty =
     let all_of_it : take m piece ≡ piece = take_all m piece (omega (arith, is_m, short)) in
-    let all : GoesOn outside 0 (text ++ piece) (place_of rest.scan.place) rest.scan.depth =
-    goes_on-both outside 0 text (place_of scan.place) scan.depth piece (place_of rest.scan.place) rest.scan.depth begun.further
-    (subst (λ (u : List ℕ). GoesOn (place_of scan.place) scan.depth u (place_of rest.scan.place) rest.scan.depth) all_of_it goes) in
+    let all : GoesOn outside 0 (text ++ piece) (state_of rest.scan.state) rest.scan.depth =
+    goes_on-both outside 0 text (state_of scan.state) scan.depth piece (state_of rest.scan.state) rest.scan.depth begun.further
+    (subst (λ (u : List ℕ). GoesOn (state_of scan.state) scan.depth u (state_of rest.scan.state) rest.scan.depth) all_of_it goes) in
     let size : length (text ++ piece) ≡ length text + length piece = length-append text piece in
     let here : IsUnfinished most (text ++ piece) rest.scan =
     record {
@@ -80,7 +80,7 @@ pub messages-rest : (most : ℕ) (text : List ℕ) (scan : Scan) → IsRest most
 messages-rest most [] scan rest = refl
 messages-rest most (c ∷ cs) scan rest =
     ap (messages most) (append-nil (c ∷ cs))
-    ∙ messages-incomplete most c cs rest.brace rest.short (goes_on-unclosed outside 0 (c ∷ cs) (place_of scan.place) scan.depth rest.further)
+    ∙ messages-incomplete most c cs rest.brace rest.short (goes_on-unclosed outside 0 (c ∷ cs) (state_of scan.state) scan.depth rest.further)
 
 -- a stream that goes on is at no fault
 pub no_fault : (most : ℕ) (s : StreamState) (rest : Unfinished) → IsStanding most s → s ≡ Going rest → None ≡ fault_of (messages_after most s []).1

@@ -3,7 +3,7 @@ use Rattle.std.proofs.Common.{◌≡◌, ◌≢◌, ℕ, zero, suc, ◌==◌, �
 use Rattle.std.proofs.lemmas.List.{length-take, take-append-le, drop-append-le, take_all, drop_more}
 use Rattle.std.proofs.lemmas.Bool.{lt-ltb, ltb-true, eqb-true}
 use Rattle.serde_json.specs.Data.{Data}
-use Rattle.odb_wire.specs.Stream.{is_blank, Place, outside, closed_at, place_after, open_after, Front, incomplete, too_long, bad, whole, of_text, front_of, skip_blanks, message_of, Ending, goes_on, fault_too_long, fault_bad, messages_in, messages}
+use Rattle.odb_wire.specs.Stream.{is_blank, ScanState, outside, closed_at, state_after, open_after, Front, incomplete, too_long, bad, whole, of_text, front_of, skip_blanks, message_of, Ending, goes_on, fault_too_long, fault_bad, messages_in, messages}
 use Rattle.odb_wire.specs.Standing.{prepended}
 
 -- ---- where the text of an object ends
@@ -14,25 +14,25 @@ mapped_some f None o' y e h = cc
 mapped_some f (Some x) o' y e h = ap (option_map f) (h x refl) ∙ e
 
 -- an end is not moved by what follows
-pub closed_at-more : (p : Place) (n m : ℕ) (s more t : List ℕ) → closed_at p n (take m s) ≡ Some t → closed_at p n (take m (s ++ more)) ≡ Some t
+pub closed_at-more : (p : ScanState) (n m : ℕ) (s more t : List ℕ) → closed_at p n (take m s) ≡ Some t → closed_at p n (take m (s ++ more)) ≡ Some t
 closed_at-more p n zero s more t e = cc
 closed_at-more p n (suc m) [] more t e = cc
 closed_at-more p n (suc m) (c ∷ cs) more t e =
-    let P : Bool → Type 0 = λ b. (if b then Some (c ∷ []) else option_map (λ u. c ∷ u) (closed_at (place_after p c) (open_after p c n) (take m cs))) ≡ Some t
-    → (if b then Some (c ∷ []) else option_map (λ u. c ∷ u) (closed_at (place_after p c) (open_after p c n) (take m (cs ++ more)))) ≡ Some t in
+    let P : Bool → Type 0 = λ b. (if b then Some (c ∷ []) else option_map (λ u. c ∷ u) (closed_at (state_after p c) (open_after p c n) (take m cs))) ≡ Some t
+    → (if b then Some (c ∷ []) else option_map (λ u. c ∷ u) (closed_at (state_after p c) (open_after p c n) (take m (cs ++ more)))) ≡ Some t in
     elim (open_after p c n == 0) as P [
       | true ↦ λ is. is
-      | false ↦ λ is. mapped_some (λ u. c ∷ u) _ _ t is (λ u at. closed_at-more (place_after p c) (open_after p c n) m cs more u at)
+      | false ↦ λ is. mapped_some (λ u. c ∷ u) _ _ t is (λ u at. closed_at-more (state_after p c) (open_after p c n) m cs more u at)
     ] e
 
 -- the text that ends there
-closed_at-length : (p : Place) (n : ℕ) (s t : List ℕ) → closed_at p n s ≡ Some t → (0 < length t) × (length t ≤ length s)
+closed_at-length : (p : ScanState) (n : ℕ) (s t : List ℕ) → closed_at p n s ≡ Some t → (0 < length t) × (length t ≤ length s)
 closed_at-length p n [] t e = absurd (cc)
 closed_at-length p n (c ∷ cs) t e =
-    let P : Bool → Type 0 = λ b. (if b then Some (c ∷ []) else option_map (λ u. c ∷ u) (closed_at (place_after p c) (open_after p c n) cs)) ≡ Some t → (0 < length t) × (length t ≤ suc (length cs)) in
+    let P : Bool → Type 0 = λ b. (if b then Some (c ∷ []) else option_map (λ u. c ∷ u) (closed_at (state_after p c) (open_after p c n) cs)) ≡ Some t → (0 < length t) × (length t ≤ suc (length cs)) in
     elim (open_after p c n == 0) as P [
       | true ↦ λ is. let same : c ∷ [] ≡ t = cc in subst (λ (u : List ℕ). (0 < length u) × (length u ≤ suc (length cs))) same (omega arith, omega arith)
-      | false ↦ λ is. longer (closed_at (place_after p c) (open_after p c n) cs) is (λ u at. closed_at-length (place_after p c) (open_after p c n) cs u at)
+      | false ↦ λ is. longer (closed_at (state_after p c) (open_after p c n) cs) is (λ u at. closed_at-length (state_after p c) (open_after p c n) cs u at)
     ] e
   where
     longer : (o : Option (List ℕ)) → option_map (λ u. c ∷ u) o ≡ Some t → ((u : List ℕ) → o ≡ Some u → (0 < length u) × (length u ≤ length cs)) → (0 < length t) × (length t ≤ suc (length cs))

@@ -2,7 +2,7 @@
 use Rattle.std.specs.Prelude.{◌≡◌, ℕ, ◌==◌, ◌<◌, ◌≤◌, length, take, slice_index, IsTrue, List, [], ◌∷◌, ◌++◌}
 use Rattle.serde_json.specs.Data.{Data}
 use Rattle.odb_wire.specs.Stream.{outside, front_of, whole, too_long, bad, Ending, fault_too_long, fault_bad, messages}
-use Rattle.odb_wire.specs.Scanning.{place_of, GoesOn}
+use Rattle.odb_wire.specs.Scanning.{state_of, GoesOn}
 use Rattle.odb_wire.specs.declared.scan.Scan.{Scan}
 use Rattle.odb_wire.specs.declared.fault.WireFault.{WireFault}
 use Rattle.odb_wire.specs.declared.fault.WireFault.TheVariants as fault
@@ -24,7 +24,7 @@ pub record IsUnfinished (most : ℕ) (text : List ℕ) (scan : Scan) : Type 0 wh
   pub short : length text < most
   pub brace : IsTrue (slice_index text 0 == 123)
   pub depth : scan.depth ≤ length text
-  pub further : GoesOn outside 0 text (place_of scan.place) scan.depth
+  pub further : GoesOn outside 0 text (state_of scan.state) scan.depth
 
 -- such a text, or nothing
 abbrev pub IsRest : ℕ → List ℕ → Scan → Type 0

@@ -10,25 +10,25 @@ abbrev pub is_blank : ℕ → Bool
 is_blank c = (c == 32) || ((c == 9) || ((c == 10) || (c == 13)))
 
 -- outside a string, inside one, or after a backslash inside one
-pub data Place : Type 0 where
-  outside inside escaped : Place
+pub data ScanState : Type 0 where
+  outside inside escaped : ScanState
 
-abbrev pub place_after : Place → ℕ → Place
-place_after outside c = if c == 34 then inside else outside
-place_after inside c = if c == 34 then outside else (if c == 92 then escaped else inside)
-place_after escaped c = inside
+abbrev pub state_after : ScanState → ℕ → ScanState
+state_after outside c = if c == 34 then inside else outside
+state_after inside c = if c == 34 then outside else (if c == 92 then escaped else inside)
+state_after escaped c = inside
 
 -- how many braces stand open after a byte
-abbrev pub open_after : Place → ℕ → ℕ → ℕ
+abbrev pub open_after : ScanState → ℕ → ℕ → ℕ
 open_after outside c n = if c == 123 then n + 1 else (if c == 125 then n - 1 else n)
 open_after inside c n = n
 open_after escaped c n = n
 
 -- the bytes up to the first place where, outside strings, as many braces have closed as opened
-abbrev pub closed_at : Place → ℕ → List ℕ → Option (List ℕ)
+abbrev pub closed_at : ScanState → ℕ → List ℕ → Option (List ℕ)
 closed_at p n [] = None
 closed_at p n (c ∷ cs) =
-    if open_after p c n == 0 then Some (c ∷ []) else option_map (λ t. c ∷ t) (closed_at (place_after p c) (open_after p c n) cs)
+    if open_after p c n == 0 then Some (c ∷ []) else option_map (λ t. c ∷ t) (closed_at (state_after p c) (open_after p c n) cs)
 
 -- the most bytes of one message where nobody asks for another limit
 unfoldable pub max_message : ℕ

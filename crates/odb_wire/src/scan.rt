@@ -1,13 +1,13 @@
 //! The byte machine that finds where the text of an object ends. [P 7.1]
 ghost use Rattle.std.specs.Prelude.{◌≡◌, ◌+◌, ◌<◌, ◌≤◌, ◌^◌, length, IfSome, IfNone};
-ghost use Rattle.odb_wire.specs.Stream.{outside, place_after, open_after};
-ghost use Rattle.odb_wire.specs.Scanning.{place_of, IsEnd, GoesOn, PassesOver, StaysInside};
+ghost use Rattle.odb_wire.specs.Stream.{outside, state_after, open_after};
+ghost use Rattle.odb_wire.specs.Scanning.{state_of, IsEnd, GoesOn, PassesOver, StaysInside};
 
 use memchr::memchr2;
 
 /// Whether the next byte is outside a string, inside one, or after a backslash inside one.
 #[derive(Clone, Copy)]
-pub(crate) enum Place {
+pub(crate) enum ScanState {
     Outside,
     Inside,
     Escaped,
@@ -16,7 +16,7 @@ pub(crate) enum Place {
 /// How the text of an object stands after what was read of it.
 #[derive(Clone, Copy)]
 pub(crate) struct Scan {
-    place: Place,
+    state: ScanState,
     /// how many braces stand open
     depth: usize,
     ghost within: { 0 < depth },
@@ -25,11 +25,11 @@ pub(crate) struct Scan {
 impl Scan {
     /// Begins after the brace that opens the object.
     pub(crate) fn begun() -> Scan
-        ensures place { place_of result.place ≡ outside }
+        ensures state { state_of result.state ≡ outside }
         ensures depth { result.depth ≡ 1 }
     {
         Scan {
-            place: Place::Outside,
+            state: ScanState::Outside,
             depth: 1,
         }
     }
@@ -38,26 +38,26 @@ impl Scan {
     /// strings are searched for the next quote or backslash.
     pub(crate) fn end_in(&mut self, bytes: &[u8]) -> Option<usize>
         requires { self.old.depth + length bytes.now < 2 ^ 64 }
-        ensures end { IfSome result (IsEnd (place_of self.old.place) self.old.depth bytes.now) }
-        ensures on { IfNone result (GoesOn (place_of self.old.place) self.old.depth bytes.now
-            (place_of self.new.place) self.new.depth) }
+        ensures end { IfSome result (IsEnd (state_of self.old.state) self.old.depth bytes.now) }
+        ensures on { IfNone result (GoesOn (state_of self.old.state) self.old.depth bytes.now
+            (state_of self.new.state) self.new.depth) }
         ensures bound { self.new.depth ≤ self.old.depth + length bytes.now }
     {
         let Scan {
-            mut place,
+            mut state,
             mut depth,
         } = *self;
-        let mut next = telling(place, bytes, 0);
+        let mut next = telling(state, bytes, 0);
         while next < bytes.len() {
-            let (further, open) = after(place, depth, bytes[next]);
+            let (further, open) = after(state, depth, bytes[next]);
             if open == 0 {
                 return Some(next + 1);
             }
-            place = further;
+            state = further;
             depth = open;
-            next = telling(place, bytes, next + 1);
+            next = telling(state, bytes, next + 1);
         }
-        *self = Scan { place, depth };
+        *self = Scan { state, depth };
         None
     }
 }
@@ -65,16 +65,16 @@ impl Scan {
 /// Returns the place of the first byte from this one on after which the scan may stand otherwise: inside a string that of
 /// the next quote or backslash.
 #[inline(always)]
-fn telling(place: Place, bytes: &[u8], from: usize) -> usize
+fn telling(state: ScanState, bytes: &[u8], from: usize) -> usize
     requires within { from ≤ length bytes.now }
     ensures on { from ≤ result }
     ensures within { result ≤ length bytes.now }
-    ensures passed { PassesOver (place_of place) bytes.now from result }
+    ensures passed { PassesOver (state_of state) bytes.now from result }
 {
-    match place {
-        Place::Inside => from + plain(&bytes[from..]),
-        Place::Outside => from,
-        Place::Escaped => from,
+    match state {
+        ScanState::Inside => from + plain(&bytes[from..]),
+        ScanState::Outside => from,
+        ScanState::Escaped => from,
     }
 }
 
@@ -86,26 +86,26 @@ fn plain(bytes: &[u8]) -> usize
     memchr2(b'"', b'\\', bytes).unwrap_or(bytes.len())
 }
 
-/// Returns the place and the open braces after a byte.
+/// Returns the state and the open braces after a byte.
 #[inline(always)]
-fn after(place: Place, depth: usize, byte: u8) -> (Place, usize)
+fn after(state: ScanState, depth: usize, byte: u8) -> (ScanState, usize)
     requires within { 0 < depth }
     requires room { depth + 1 < 2 ^ 64 }
-    ensures place { place_of result.0 ≡ place_after (place_of place) byte }
-    ensures depth { result.1 ≡ open_after (place_of place) byte depth }
+    ensures state { state_of result.0 ≡ state_after (state_of state) byte }
+    ensures depth { result.1 ≡ open_after (state_of state) byte depth }
 {
-    match place {
-        Place::Outside => match byte {
-            b'"' => (Place::Inside, depth),
-            b'{' => (Place::Outside, depth + 1),
-            b'}' => (Place::Outside, depth - 1),
-            _ => (Place::Outside, depth),
+    match state {
+        ScanState::Outside => match byte {
+            b'"' => (ScanState::Inside, depth),
+            b'{' => (ScanState::Outside, depth + 1),
+            b'}' => (ScanState::Outside, depth - 1),
+            _ => (ScanState::Outside, depth),
         },
-        Place::Inside => match byte {
-            b'"' => (Place::Outside, depth),
-            b'\\' => (Place::Escaped, depth),
-            _ => (Place::Inside, depth),
+        ScanState::Inside => match byte {
+            b'"' => (ScanState::Outside, depth),
+            b'\\' => (ScanState::Escaped, depth),
+            _ => (ScanState::Inside, depth),
         },
-        Place::Escaped => (Place::Inside, depth),
+        ScanState::Escaped => (ScanState::Inside, depth),
     }
 }

@@ -12,8 +12,8 @@ use crate::tuning::{BATCH, EVENTS, LOOKS, PIECE, RETRY_PAUSE, TURNS};
 use mio::net::TcpStream;
 use mio::{Events, Interest, Poll, Token};
 use odb_core::{EventRefusal, SessionId};
-use odb_hub::{Bell, Calls};
-use odb_waking::LoopPlace;
+use odb_hub::{Bell, Wakes};
+use odb_waking::LoopStage;
 use rand::make_rng;
 use std::alloc::{AllocError, Global};
 use std::collections::VecDeque;
@@ -30,15 +30,15 @@ pub(crate) struct Clerk<'a, L: Ledger, M: Ledger, R> {
     tools: Tools<'a, L, M, R>,
     desk: &'a Desk,
     poll: Poll,
-    /// The connections at their places, and the places that are vacant.
+    /// The connections in their slots, and the slots that are vacant.
     connections: Vec<Option<Connection<'a, L, M>>>,
     vacant: Vec<usize>,
-    /// The places of those that have a turn next: of those that ask something, of those of them whose last submission was
-    /// slow, and of the others.
-    asking: VecDeque<usize>,
+    /// The slots of those that have a turn next: of those that have requests, of those of them whose last submission
+    /// was slow, and of the others.
+    with_requests: VecDeque<usize>,
     slow: VecDeque<usize>,
     queue: VecDeque<usize>,
-    /// Whether the last events added some to those that ask something.
+    /// Whether the last events added some to those that have requests.
     has_newer: bool,
     /// Whether no connection will come any more.
     is_closed: bool,
@@ -63,8 +63,8 @@ pub(crate) fn serve_desk<L: Ledger, M: Ledger, R: Threads + Wait + Clock + Rando
             daemon,
             second: daemons.second.as_ref(),
             front: daemons.front.as_ref(),
-            calls: &desk.calls,
-            place: 0,
+            wakes: &desk.wakes,
+            slot: 0,
             piece,
             identifiers: RandomIdentifiers { rng: make_rng(rt)? },
             server: start_server(daemons.front.as_ref())?,
@@ -74,7 +74,7 @@ pub(crate) fn serve_desk<L: Ledger, M: Ledger, R: Threads + Wait + Clock + Rando
         poll,
         connections: Vec::new(daemon.alloc),
         vacant: Vec::new(daemon.alloc),
-        asking: VecDeque::new(daemon.alloc),
+        with_requests: VecDeque::new(daemon.alloc),
         slow: VecDeque::new(daemon.alloc),
         queue: VecDeque::new(daemon.alloc),
         has_newer: false,
@@ -88,9 +88,9 @@ pub(crate) fn serve_desk<L: Ledger, M: Ledger, R: Threads + Wait + Clock + Rando
 impl<'a, L: Ledger, M: Ledger, R: Threads + Wait + Clock + RandomSource + Sync> Clerk<'a, L, M, R> {
     fn run(self, events: &mut Events) {
         let mut clerk = self;
-        let mut place = LoopPlace::new();
+        let mut stage = LoopStage::new();
         for _ in clerk.tools.rt.forever() {
-            clerk.turn(events, &mut place);
+            clerk.poll_once(events, &mut stage);
             if clerk.is_over() {
                 break;
             }
@@ -101,8 +101,8 @@ impl<'a, L: Ledger, M: Ledger, R: Threads + Wait + Clock + RandomSource + Sync> 
                 daemon,
                 second: _,
                 front: _,
-                calls: _,
-                place: _,
+                wakes: _,
+                slot: _,
                 piece: _,
                 identifiers: _,
                 server: _,
@@ -112,7 +112,7 @@ impl<'a, L: Ledger, M: Ledger, R: Threads + Wait + Clock + RandomSource + Sync> 
             poll: _,
             connections,
             vacant: _,
-            asking: _,
+            with_requests: _,
             slow: _,
             queue: _,
             has_newer: _,
@@ -123,18 +123,18 @@ impl<'a, L: Ledger, M: Ledger, R: Threads + Wait + Clock + RandomSource + Sync> 
     }
 
     /// Serves some of those that were called or have events, and sleeps where nothing is left to do.
-    fn turn(&mut self, events: &mut Events, place: &mut LoopPlace)
-        requires { place.old ≡ loops.begins }
-        ensures { place.new ≡ loops.begins }
+    fn poll_once(&mut self, events: &mut Events, stage: &mut LoopStage)
+        requires { stage.old ≡ loops.begins }
+        ensures { stage.new ≡ loops.begins }
     {
         self.take_connections();
-        self.hear_calls(place);
+        self.hear_wakes(stage);
         self.serve_some();
-        // What was given by this very turn.
-        place.stays();
-        self.hear_calls(place);
-        self.wait(events, place);
-        self.desk.gets_up(place);
+        // What was given just now.
+        stage.stays();
+        self.hear_wakes(stage);
+        self.wait(events, stage);
+        self.desk.gets_up(stage);
         self.notice(events);
         self.look_at_all();
         self.look_at_server();
@@ -173,15 +173,15 @@ impl<'a, L: Ledger, M: Ledger, R: Wait + Clock> Clerk<'a, L, M, R> {
     /// Opens a session for a connection; an error says that it is closed, since no session can be opened.
     fn open(&mut self, stream: TcpStream) -> io::Result<()> {
         let mut stream = stream;
-        let place = self.vacate()?;
+        let slot = self.vacate()?;
         let registry = self.poll.registry();
         registry.register(
             &mut stream,
-            Token(place),
+            Token(slot),
             Interest::READABLE | Interest::WRITABLE,
         )?;
         let daemon = self.tools.daemon;
-        let bell = Bell::new(Arc::try_clone(&self.desk.calls)?, place);
+        let bell = Bell::new(Arc::try_clone(&self.desk.wakes)?, slot);
         let opened = daemon.hub.enter(self.tools.rt).open(bell);
         let (seat, mailbox) = match opened {
             Ok(opened) => opened,
@@ -192,8 +192,8 @@ impl<'a, L: Ledger, M: Ledger, R: Wait + Clock> Clerk<'a, L, M, R> {
             connection.log_open(self.tools.rt, daemon);
         }
         drop(self.vacant.pop());
-        self.put(place, connection);
-        self.enqueue(place);
+        self.put(slot, connection);
+        self.enqueue(slot);
         Ok(())
     }
 
@@ -223,30 +223,30 @@ impl<'a, L: Ledger, M: Ledger, R: Wait + Clock> Clerk<'a, L, M, R> {
         }
     }
 
-    /// Returns the place that is the last of those that are vacant, of which there is one then. There is room in the
+    /// Returns the slot that is the last of those that are vacant, of which there is one then. There is room in the
     /// queue for all.
     fn vacate(&mut self) -> io::Result<usize> {
-        if let Some(place) = self.vacant.last() {
-            return Ok(*place);
+        if let Some(slot) = self.vacant.last() {
+            return Ok(*slot);
         }
-        let place = self.connections.len();
-        if !Calls::has_place(place) {
+        let slot = self.connections.len();
+        if !Wakes::has_bit(slot) {
             return Err(Error::from(ErrorKind::OutOfMemory));
         }
-        self.vacant.reserve(place.saturating_add(1))?;
-        self.asking.reserve(place.saturating_add(1))?;
-        self.slow.reserve(place.saturating_add(1))?;
-        self.queue.reserve(place.saturating_add(1))?;
+        self.vacant.reserve(slot.saturating_add(1))?;
+        self.with_requests.reserve(slot.saturating_add(1))?;
+        self.slow.reserve(slot.saturating_add(1))?;
+        self.queue.reserve(slot.saturating_add(1))?;
         self.connections.reserve(1)?;
         self.connections.push_reserved(None);
-        self.vacant.push(place)?;
-        Ok(place)
+        self.vacant.push(slot)?;
+        Ok(slot)
     }
 
-    fn put(&mut self, place: usize, connection: Connection<'a, L, M>) {
+    fn put(&mut self, slot: usize, connection: Connection<'a, L, M>) {
         let (rt, daemon) = (self.tools.rt, self.tools.daemon);
-        match self.connections.get_mut(place) {
-            Some(slot) => if let Some(other) = mem::replace(slot, Some(connection)) {
+        match self.connections.get_mut(slot) {
+            Some(entry) => if let Some(other) = mem::replace(entry, Some(connection)) {
                 other.close(rt, daemon);
             },
             None => connection.close(rt, daemon),
@@ -254,8 +254,8 @@ impl<'a, L: Ledger, M: Ledger, R: Wait + Clock> Clerk<'a, L, M, R> {
     }
 
     /// Has a connection served next, if it is there.
-    fn enqueue(&mut self, place: usize) {
-        let Some(connection) = at(self.connections.as_mut_slice(), place) else {
+    fn enqueue(&mut self, slot: usize) {
+        let Some(connection) = at(self.connections.as_mut_slice(), slot) else {
             return;
         };
         if connection.is_queued {
@@ -263,36 +263,36 @@ impl<'a, L: Ledger, M: Ledger, R: Wait + Clock> Clerk<'a, L, M, R> {
         }
         // There is room for each connection once.
         connection.is_queued = if !connection.has_requests() {
-            self.queue.push_back(place).is_ok()
+            self.queue.push_back(slot).is_ok()
         } else if connection.is_slow {
-            self.slow.push_back(place).is_ok()
+            self.slow.push_back(slot).is_ok()
         } else {
-            self.asking.push_back(place).is_ok()
+            self.with_requests.push_back(slot).is_ok()
         };
     }
 
     /// Has those served next to whose sessions something was given.
-    fn hear_calls(&mut self, place: &mut LoopPlace)
-        requires { place.old ≡ loops.begins }
-        ensures { place.new ≡ loops.lies_down }
+    fn hear_wakes(&mut self, stage: &mut LoopStage)
+        requires { stage.old ≡ loops.begins }
+        ensures { stage.new ≡ loops.lies_down }
     {
-        if self.desk.calls.begin(place) {
-            self.hear_words(place);
-            place.collected();
+        if self.desk.wakes.begin(stage) {
+            self.hear_words(stage);
+            stage.collected();
         }
     }
 
-    fn hear_words(&mut self, place: &LoopPlace)
-        requires { place.now ≡ loops.collects }
+    fn hear_words(&mut self, stage: &LoopStage)
+        requires { stage.now ≡ loops.collects }
     {
         let mut first: usize = 0;
-        for word in 0..self.desk.calls.words() {
-            self.hear_word(first, self.desk.calls.hear(word, place));
+        for word in 0..self.desk.wakes.words() {
+            self.hear_word(first, self.desk.wakes.hear(word, stage));
             first = first.saturating_add(u64::BITS as usize);
         }
     }
 
-    /// Hears those of the 64 places from the first on that have a bit.
+    /// Hears those of the 64 slots from the first on whose bit is set.
     fn hear_word(&mut self, first: usize, bits: u64) {
         let mut bits = bits;
         for _ in 0..u64::BITS {
@@ -304,11 +304,11 @@ impl<'a, L: Ledger, M: Ledger, R: Wait + Clock> Clerk<'a, L, M, R> {
         }
     }
 
-    fn hear(&mut self, place: usize) {
-        if let Some(connection) = at(self.connections.as_mut_slice(), place) {
+    fn hear(&mut self, slot: usize) {
+        if let Some(connection) = at(self.connections.as_mut_slice(), slot) {
             connection.hear();
         }
-        self.enqueue(place);
+        self.enqueue(slot);
     }
 
     /// Returns whether it has no connection, and none will come.
@@ -318,38 +318,38 @@ impl<'a, L: Ledger, M: Ledger, R: Wait + Clock> Clerk<'a, L, M, R> {
 
     /// Returns whether some have a turn next.
     fn has_next(&self) -> bool {
-        !self.asking.is_empty() || !self.slow.is_empty() || !self.queue.is_empty()
+        !self.with_requests.is_empty() || !self.slow.is_empty() || !self.queue.is_empty()
     }
 
     /// Waits for events: not at all where some have a turn next.
-    fn wait(&mut self, events: &mut Events, place: &mut LoopPlace)
-        requires { place.old ≡ loops.lies_down }
-        ensures { place.new ≡ loops.rises }
+    fn wait(&mut self, events: &mut Events, stage: &mut LoopStage)
+        requires { stage.old ≡ loops.lies_down }
+        ensures { stage.new ≡ loops.rises }
     {
         if self.has_next() || self.is_over() {
-            place.stayed_up();
-            return self.ask(events);
+            stage.stayed_up();
+            return self.poll_now(events);
         }
-        if self.desk.lies_down(place) {
-            self.sleep(events, place);
+        if self.desk.lies_down(stage) {
+            self.sleep(events, stage);
         } else {
-            self.ask(events);
+            self.poll_now(events);
         }
     }
 
     /// Takes the events that are there.
-    fn ask(&mut self, events: &mut Events) {
+    fn poll_now(&mut self, events: &mut Events) {
         drop(self.poll.poll(events, Some(Duration::ZERO)));
     }
 
     /// Sleeps until there are events, or it is to look whether the daemon's patience is at its end.
-    fn sleep(&mut self, events: &mut Events, place: &mut LoopPlace)
-        requires { place.old ≡ loops.sleeps }
-        ensures { place.new ≡ loops.rises }
+    fn sleep(&mut self, events: &mut Events, stage: &mut LoopStage)
+        requires { stage.old ≡ loops.sleeps }
+        ensures { stage.new ≡ loops.rises }
     {
         let interval = sooner(self.interval(), self.until_deadline());
         drop(self.poll.poll(events, interval));
-        place.slept();
+        stage.slept();
     }
 
     /// Returns how long it is until a transaction that waits in `_Server` is due, a millisecond at least.
@@ -367,8 +367,8 @@ impl<'a, L: Ledger, M: Ledger, R: Wait + Clock> Clerk<'a, L, M, R> {
         if !self.is_due() {
             return;
         }
-        for place in 0..self.connections.len() {
-            self.hear_server(place);
+        for slot in 0..self.connections.len() {
+            self.hear_server(slot);
         }
     }
 
@@ -385,12 +385,12 @@ impl<'a, L: Ledger, M: Ledger, R: Wait + Clock> Clerk<'a, L, M, R> {
         deadline <= now && server.core.tick(now).is_ok()
     }
 
-    fn hear_server(&mut self, place: usize) {
-        let Some(connection) = at(self.connections.as_mut_slice(), place) else {
+    fn hear_server(&mut self, slot: usize) {
+        let Some(connection) = at(self.connections.as_mut_slice(), slot) else {
             return;
         };
         if connection.hear_server(&mut self.tools) {
-            self.enqueue(place);
+            self.enqueue(slot);
         }
     }
 
@@ -399,15 +399,15 @@ impl<'a, L: Ledger, M: Ledger, R: Wait + Clock> Clerk<'a, L, M, R> {
         if !self.tools.daemon.patience.is_endless() {
             self.tools.moment = self.tools.daemon.now(self.tools.rt);
         }
-        let before = self.asking.len();
+        let before = self.with_requests.len();
         for event in events.iter() {
-            let place = event.token().0;
-            if let Some(connection) = at(self.connections.as_mut_slice(), place) {
+            let slot = event.token().0;
+            if let Some(connection) = at(self.connections.as_mut_slice(), slot) {
                 connection.notice(event, self.tools.moment);
             }
-            self.enqueue(place);
+            self.enqueue(slot);
         }
-        self.has_newer = self.asking.len() > before;
+        self.has_newer = self.with_requests.len() > before;
     }
 
     /// Returns how often to look whether the daemon's patience is at its end; not at all where it has none.
@@ -431,74 +431,74 @@ impl<'a, L: Ledger, M: Ledger, R: Wait + Clock> Clerk<'a, L, M, R> {
             return;
         }
         self.looks = moment.saturating_add(u64::try_from(interval.as_millis()).unwrap_or(1));
-        for place in 0..self.connections.len() {
-            self.look_at(place);
+        for slot in 0..self.connections.len() {
+            self.look_at(slot);
         }
     }
 
-    fn look_at(&mut self, place: usize) {
-        let Some(connection) = at(self.connections.as_mut_slice(), place) else {
+    fn look_at(&mut self, slot: usize) {
+        let Some(connection) = at(self.connections.as_mut_slice(), slot) else {
             return;
         };
         let expired = connection.has_expired(self.tools.daemon.patience, self.tools.moment);
         if let Some(reason) = expired {
             connection.cut_off(reason);
         }
-        self.enqueue(place);
+        self.enqueue(slot);
     }
 
     /// Closes a connection.
-    fn close(&mut self, place: usize) {
-        let Some(slot) = self.connections.get_mut(place) else {
+    fn close(&mut self, slot: usize) {
+        let Some(entry) = self.connections.get_mut(slot) else {
             return;
         };
-        if let Some(mut connection) = mem::replace(slot, None) {
+        if let Some(mut connection) = mem::replace(entry, None) {
             if let Some(session) = connection.leave_server() {
-                leave_at_last(&mut self.tools, session);
+                leave_server_at_last(&mut self.tools, session);
             }
             connection.close(self.tools.rt, self.tools.daemon);
             self.desk.let_go();
-            // There is room for each place once.
-            drop(self.vacant.push(place));
+            // There is room for each slot once.
+            drop(self.vacant.push(slot));
         }
     }
 }
 
 impl<'a, L: Ledger, M: Ledger, R: Threads + Wait + Clock + Sync> Clerk<'a, L, M, R> {
-    /// Gives a turn to some of those that ask something, and to as many of the others, so that neither wait for all of the
-    /// others; and then to one that was slow, so that the others wait for one of these at most. The first is the last that
-    /// events brought, and after a while it looks for further events: so who asks little waits for a few of many that came
-    /// before and ask much, and each of these has its turn.
+    /// Gives a turn to some of those that have requests, and to as many of the others, so that neither wait for all of
+    /// the others; and then to one that was slow, so that the others wait for one of these at most. The first is the
+    /// last that events brought, and after a while it looks for further events: so who asks little waits for a few of
+    /// many that came before and ask much, and each of these has its turn.
     fn serve_some(&mut self) {
         let begun = Instant::now(self.tools.rt);
         if self.has_newer
-            && let Some(place) = self.asking.pop_back()
+            && let Some(slot) = self.with_requests.pop_back()
         {
             self.has_newer = false;
-            self.serve_asking(place);
+            self.serve_with_requests(slot);
         }
         for _ in 0..TURNS {
-            if self.asking.is_empty() && self.queue.is_empty() {
+            if self.with_requests.is_empty() && self.queue.is_empty() {
                 break;
             }
-            if let Some(place) = self.asking.pop_front() {
-                self.serve_asking(place);
+            if let Some(slot) = self.with_requests.pop_front() {
+                self.serve_with_requests(slot);
             }
             self.serve_others(1);
             if has_lasted(self.tools.rt, &begun, BATCH) {
                 break;
             }
         }
-        if let Some(place) = self.slow.pop_front() {
-            self.serve_asking(place);
+        if let Some(slot) = self.slow.pop_front() {
+            self.serve_with_requests(slot);
         }
     }
 
-    /// Gives a turn to one that asks something. Where that was slow others have theirs before the next is asked for, so that
-    /// long replies go out before there are more of them.
-    fn serve_asking(&mut self, place: usize) {
-        self.serve(place);
-        let is_slow = match at(self.connections.as_mut_slice(), place) {
+    /// Gives a turn to one that has requests. Where that was slow others have theirs before the next is asked for, so
+    /// that long replies go out before there are more of them.
+    fn serve_with_requests(&mut self, slot: usize) {
+        self.serve(slot);
+        let is_slow = match at(self.connections.as_mut_slice(), slot) {
             Some(connection) => connection.is_slow,
             None => false,
         };
@@ -507,40 +507,40 @@ impl<'a, L: Ledger, M: Ledger, R: Threads + Wait + Clock + Sync> Clerk<'a, L, M,
         }
     }
 
-    /// Gives a turn to so many of those that ask nothing.
+    /// Gives a turn to so many of those that have none.
     fn serve_others(&mut self, most: usize) {
         for _ in 0..most {
-            let Some(place) = self.queue.pop_front() else {
+            let Some(slot) = self.queue.pop_front() else {
                 break;
             };
-            self.serve(place);
+            self.serve(slot);
         }
     }
 
-    fn serve(&mut self, place: usize) {
-        let Some(connection) = at(self.connections.as_mut_slice(), place) else {
+    fn serve(&mut self, slot: usize) {
+        let Some(connection) = at(self.connections.as_mut_slice(), slot) else {
             return;
         };
         connection.is_queued = false;
-        self.tools.place = place;
+        self.tools.slot = slot;
         match connection.serve(&mut self.tools) {
             Next::Rests => {}
-            Next::GoesOn => self.enqueue(place),
-            Next::Ends => self.close(place),
+            Next::GoesOn => self.enqueue(slot),
+            Next::Ends => self.close(slot),
         }
     }
 }
 
-/// Returns the connection at a place, if there is one.
+/// Returns the connection in a slot, if there is one.
 fn at<'c, 'a, L: Ledger, M: Ledger>(
     connections: &'c mut [Option<Connection<'a, L, M>>],
-    place: usize,
+    slot: usize,
 ) -> Option<&'c mut Connection<'a, L, M>> {
-    connections.get_mut(place)?.as_mut()
+    connections.get_mut(slot)?.as_mut()
 }
 
 /// Ends a session in `_Server`. Where memory is refused it tries again.
-fn leave_at_last<L: Ledger, M: Ledger, R: Wait + Clock>(
+fn leave_server_at_last<L: Ledger, M: Ledger, R: Wait + Clock>(
     tools: &mut Tools<'_, L, M, R>,
     session: SessionId,
 ) {

@@ -11,7 +11,7 @@ use mio::event::Event;
 use mio::net::TcpStream;
 use odb_core::{EventRefusal, Out, SessionId};
 use odb_front::{Destination, IdText, Naming, destination_of, first_id, names_monitor};
-use odb_hub::{Bell, Calls, Identifiers, Inbox, Mailbox, Outbox, Seat};
+use odb_hub::{Bell, Identifiers, Inbox, Mailbox, Outbox, Seat, Wakes};
 use odb_rpc::reply_id;
 use odb_wire::{Request, WireFault};
 use rand::rngs::StdRng;
@@ -44,9 +44,9 @@ pub(crate) struct Tools<'a, L: Ledger, M: Ledger, R> {
     pub(crate) second: Option<&'a Second<M>>,
     /// What there is where there are several databases.
     pub(crate) front: Option<&'a FrontEnd>,
-    /// By what the thread is called, and the place of the connection that has its turn.
-    pub(crate) calls: &'a Arc<Calls>,
-    pub(crate) place: usize,
+    /// By what the thread is called, and the slot of the connection that has its turn.
+    pub(crate) wakes: &'a Arc<Wakes>,
+    pub(crate) slot: usize,
     /// Where bytes are read.
     pub(crate) piece: Vec<u8>,
     pub(crate) identifiers: RandomIdentifiers,
@@ -109,9 +109,9 @@ pub(crate) struct Connection<'a, L: Ledger, M: Ledger> {
     /// When the peer sent something, and when it took something, in milliseconds since the start.
     heard: u64,
     took: u64,
-    /// Whether the peer was asked whether it is there, since it was heard, and whether that is still to be written.
-    was_asked: bool,
-    asks: bool,
+    /// When the peer was probed, if it was since it was heard, and whether the probe is still to be written.
+    probed: Option<u64>,
+    is_probe_due: bool,
 }
 
 impl<'a, L: Ledger, M: Ledger> Connection<'a, L, M> {
@@ -145,8 +145,8 @@ impl<'a, L: Ledger, M: Ledger> Connection<'a, L, M> {
             is_slow: false,
             heard: moment,
             took: moment,
-            was_asked: false,
-            asks: false,
+            probed: None,
+            is_probe_due: false,
         }
     }
 
@@ -177,7 +177,7 @@ impl<'a, L: Ledger, M: Ledger> Connection<'a, L, M> {
     }
 
     /// Has a turn: it writes what it can, and reads and submits a piece of what there is. Where it is cut off, or memory was
-    /// refused for too long for what its session is owed, it ends. Steps: those of `turn`, or `parts`.
+    /// refused for too long for what its session is owed, it ends. Steps: those of `serve_once`, or `leaves`.
     pub(crate) fn serve<R: Threads + Wait + Clock + Sync>(
         &mut self,
         tools: &mut Tools<'a, L, M, R>,
@@ -185,13 +185,13 @@ impl<'a, L: Ledger, M: Ledger> Connection<'a, L, M> {
         if self.is_given_up() {
             self.end_for(Reason::Memory);
         } else if !self.is_cut_off {
-            match self.turn(tools) {
+            match self.serve_once(tools) {
                 Ok(next) => return next,
                 Err(_) => self.end_for(Reason::Unwritten),
             }
             self.is_cut_off = true;
         }
-        if self.part(tools) {
+        if self.leave(tools) {
             Next::Ends
         } else {
             Next::GoesOn
@@ -223,10 +223,10 @@ impl<'a, L: Ledger, M: Ledger> Connection<'a, L, M> {
 
     /// Ends its sessions, if these are open. False says that memory was refused: then it pauses, as they are to end once there is
     /// memory, since one that stayed would keep its locks.
-    fn part<R: Wait + Clock>(&mut self, tools: &Tools<'a, L, M, R>) -> bool {
+    fn leave<R: Wait + Clock>(&mut self, tools: &Tools<'a, L, M, R>) -> bool {
         let is_over = match &mut self.second {
-            Some(second) => second.part_both(tools.rt, tools.daemon, &mut self.seat),
-            None => part_once(tools.rt, tools.daemon, &mut self.seat),
+            Some(second) => second.leave_both(tools.rt, tools.daemon, &mut self.seat),
+            None => leave_once(tools.rt, tools.daemon, &mut self.seat),
         };
         if !is_over {
             thread::sleep(tools.rt, Duration::from_millis(RETRY_PAUSE));
@@ -236,7 +236,7 @@ impl<'a, L: Ledger, M: Ledger> Connection<'a, L, M> {
 
     /// Writes, reads and submits, also where the socket is full. Steps: those of `write`; `checks`; those of `read` and
     /// `submit`, and of `write` again; those of `next`.
-    fn turn<R: Threads + Wait + Clock + Sync>(
+    fn serve_once<R: Threads + Wait + Clock + Sync>(
         &mut self,
         tools: &mut Tools<'a, L, M, R>,
     ) -> io::Result<Next> {
@@ -300,7 +300,7 @@ impl<'a, L: Ledger, M: Ledger> Connection<'a, L, M> {
     /// Notes that the peer sent something, or couldn't.
     fn hear_peer(&mut self, moment: u64) {
         self.heard = moment;
-        self.was_asked = false;
+        self.probed = None;
     }
 
     /// Returns what comes next, after so much was written. Steps: `checks` where a request waits since it met Busy; those of
@@ -328,7 +328,7 @@ impl<'a, L: Ledger, M: Ledger> Connection<'a, L, M> {
 
     /// Returns what comes next of a connection of which nothing more is submitted: what the session is given is written,
     /// then the session ends, and what it was given by then is written. Once it ended, it doesn't matter any more whether a
-    /// message was held back. Steps: `ends`, `parts`.
+    /// message was held back. Steps: `ends`, `leaves`.
     fn end<R: Wait + Clock>(&mut self, tools: &Tools<'a, L, M, R>, written: Written) -> Next {
         match written {
             Written::All => {}
@@ -342,7 +342,7 @@ impl<'a, L: Ledger, M: Ledger> Connection<'a, L, M> {
             return Next::Rests;
         }
         self.inbox.stop();
-        self.part(tools);
+        self.leave(tools);
         Next::GoesOn
     }
 
@@ -400,12 +400,12 @@ impl<'a, L: Ledger, M: Ledger> Connection<'a, L, M> {
         Ok(is_moved)
     }
 
-    /// Has what is held back sent, and the peer asked where that is due, once all else is written. True says that there may
-    /// be more to write.
+    /// Has what is held back sent, and the peer probed where that is due, once all else is written. True says that
+    /// there may be more to write.
     fn refill<R: Threads + Wait + Sync>(&mut self, tools: &Tools<'a, L, M, R>) -> io::Result<bool> {
-        if self.asks {
-            self.asks = false;
-            return Ok(self.outbox.ask()?);
+        if self.is_probe_due {
+            self.is_probe_due = false;
+            return Ok(self.outbox.probe()?);
         }
         if self.move_front() || self.move_second()? {
             return Ok(true);
@@ -579,7 +579,7 @@ impl<'a, L: Ledger, M: Ledger> Connection<'a, L, M> {
             return Err(AllocError);
         };
         self.front(tools)?;
-        let bell = Bell::new(Arc::try_clone(tools.calls)?, tools.place);
+        let bell = Bell::new(Arc::try_clone(tools.wakes)?, tools.slot);
         let opened = second.daemon.hub.enter(tools.rt).open(bell);
         let Ok((seat, mailbox)) = opened else {
             return Err(AllocError);
@@ -708,20 +708,20 @@ impl<'a, L: Ledger, M: Ledger> Connection<'a, L, M> {
     fn submit_run<R: Threads + Wait + Clock + Sync>(
         &mut self,
         tools: &Tools<'a, L, M, R>,
-        place: Destination,
+        destination: Destination,
     ) -> Result<(), AllocError> {
         if self.names_monitor(0) {
-            return self.submit_naming(tools, place);
+            return self.submit_naming(tools, destination);
         }
-        let most = self.run(tools, place)?;
-        self.submit_to(tools, place, most)
+        let most = self.run(tools, destination)?;
+        self.submit_to(tools, destination, most)
     }
 
     /// Submits the first request, and notes how it names monitors.
     fn submit_naming<R: Threads + Wait + Clock + Sync>(
         &mut self,
         tools: &Tools<'a, L, M, R>,
-        place: Destination,
+        destination: Destination,
     ) -> Result<(), AllocError> {
         let Some(request) = self.inbox.request(0) else {
             return Ok(());
@@ -732,11 +732,11 @@ impl<'a, L: Ledger, M: Ledger> Connection<'a, L, M> {
             naming: Naming::of(alloc, request)?,
         };
         let before = self.inbox.pending();
-        self.submit_to(tools, place, 1)?;
+        self.submit_to(tools, destination, 1)?;
         if self.inbox.pending() == before {
             return Ok(());
         }
-        self.note_naming(tools, place, asked)
+        self.note_naming(tools, destination, asked)
     }
 
     /// Notes how a request named monitors that was submitted: of the second database once there is its reply, of the first as
@@ -744,12 +744,12 @@ impl<'a, L: Ledger, M: Ledger> Connection<'a, L, M> {
     fn note_naming<R>(
         &mut self,
         tools: &Tools<'a, L, M, R>,
-        place: Destination,
+        destination: Destination,
         asked: NamingRequest,
     ) -> Result<(), AllocError> {
-        if place != Destination::Second {
+        if destination != Destination::Second {
             let NamingRequest { id: _, naming } = asked;
-            return self.front(tools)?.ids.note(place, naming);
+            return self.front(tools)?.ids.record_naming(destination, naming);
         }
         if let Some(second) = &mut self.second {
             second.ask(asked);
@@ -761,10 +761,10 @@ impl<'a, L: Ledger, M: Ledger> Connection<'a, L, M> {
     fn submit_to<R: Threads + Wait + Clock + Sync>(
         &mut self,
         tools: &Tools<'a, L, M, R>,
-        place: Destination,
+        destination: Destination,
         most: usize,
     ) -> Result<(), AllocError> {
-        if place == Destination::Second {
+        if destination == Destination::Second {
             return self.submit_second(tools, most);
         }
         self.submit_first(tools, most);
@@ -772,10 +772,14 @@ impl<'a, L: Ledger, M: Ledger> Connection<'a, L, M> {
     }
 
     /// Returns how many of the requests, from the first, go to this database and name no monitor: one at least and a turn at most.
-    fn run<R>(&self, tools: &Tools<'a, L, M, R>, place: Destination) -> Result<usize, AllocError> {
+    fn run<R>(
+        &self,
+        tools: &Tools<'a, L, M, R>,
+        destination: Destination,
+    ) -> Result<usize, AllocError> {
         for next in 1..LOOKED_AT {
             let goes_on = match self.destination(tools, next)? {
-                Some(goes) => goes == place && !self.names_monitor(next),
+                Some(goes) => goes == destination && !self.names_monitor(next),
                 None => false,
             };
             if !goes_on {
@@ -897,17 +901,16 @@ impl<'a, L: Ledger, M: Ledger> Connection<'a, L, M> {
         true
     }
 
-    /// Returns why the daemon's patience with the peer is at its end, if it is at this moment. Before that the peer is asked
-    /// whether it is there, which is to be written. A peer that isn't read isn't silent, but where its request waits since it
+    /// Returns why the daemon's patience with the peer is at its end, if it is at this moment. Before that the peer is
+    /// probed, which is to be written. A peer that isn't read isn't silent, but where its request waits since it
     /// met Busy: then what arrives is noticed though it isn't read.
     pub(crate) fn has_expired(&mut self, patience: Patience, moment: u64) -> Option<Reason> {
         let Patience { probe, stall } = patience;
         if !self.may_read() && !self.is_busy || self.is_held_back() {
             self.hear_peer(moment);
         }
-        let silent = moment.saturating_sub(self.heard);
         let is_silent = match probe {
-            Some(probe) => self.is_silent(silent, probe),
+            Some(probe) => self.is_silent(moment, probe),
             None => false,
         };
         let is_stalled = match stall {
@@ -942,13 +945,17 @@ impl<'a, L: Ledger, M: Ledger> Connection<'a, L, M> {
         self.log(rt, daemon, ConnectionEvent::Closed(self.session, reason));
     }
 
-    /// Returns whether a peer counts as gone that said nothing for so long; it is asked after half of that time.
-    fn is_silent(&mut self, silent: u64, probe: u64) -> bool {
-        if !self.was_asked && silent >= probe {
-            self.was_asked = true;
-            self.asks = true;
+    /// Returns whether a peer counts as gone: it said nothing for `probe` milliseconds, was probed, and said nothing for as many
+    /// after that. So it has this time also where the process itself was stopped in between.
+    fn is_silent(&mut self, moment: u64, probe: u64) -> bool {
+        if let Some(probed) = self.probed {
+            return moment.saturating_sub(probed) >= probe;
         }
-        silent >= probe.saturating_mul(2)
+        if moment.saturating_sub(self.heard) >= probe {
+            self.probed = Some(moment);
+            self.is_probe_due = true;
+        }
+        false
     }
 
     /// Closes the connection, and ends its sessions if these are open.
@@ -975,21 +982,21 @@ impl<'a, L: Ledger, M: Ledger> Connection<'a, L, M> {
             is_slow: _,
             heard: _,
             took: _,
-            was_asked: _,
-            asks: _,
+            probed: _,
+            is_probe_due: _,
         } = self;
         drop(stream.shutdown(Shutdown::Both));
         match second {
             Some(second) => Box::into_inner(second).end_both(rt, daemon, seat),
             None => if let Some(seat) = seat {
-                part_at_last(rt, daemon, seat);
+                leave_at_last(rt, daemon, seat);
             },
         }
     }
 }
 
 /// Ends a session, if it is open. False says that memory was refused, and that it is open still.
-pub(crate) fn part_once<L: Ledger, R: Wait + Clock>(
+pub(crate) fn leave_once<L: Ledger, R: Wait + Clock>(
     rt: &R,
     daemon: &Daemon<L>,
     seat: &mut Option<Seat<L>>,
@@ -997,20 +1004,20 @@ pub(crate) fn part_once<L: Ledger, R: Wait + Clock>(
     let Some(own) = seat.take() else {
         return true;
     };
-    let Err(back) = daemon.part(rt, own) else {
+    let Err(back) = daemon.leave(rt, own) else {
         return true;
     };
     if let Some(other) = mem::replace(seat, Some(back)) {
-        part_at_last(rt, daemon, other);
+        leave_at_last(rt, daemon, other);
     }
     false
 }
 
 /// Ends a session. Where memory is refused it tries again.
-pub(crate) fn part_at_last<L: Ledger, R: Wait + Clock>(rt: &R, daemon: &Daemon<L>, seat: Seat<L>) {
+pub(crate) fn leave_at_last<L: Ledger, R: Wait + Clock>(rt: &R, daemon: &Daemon<L>, seat: Seat<L>) {
     let mut seat = seat;
     for _ in rt.forever() {
-        match daemon.part(rt, seat) {
+        match daemon.leave(rt, seat) {
             Ok(()) => return,
             Err(back) => seat = back,
         }

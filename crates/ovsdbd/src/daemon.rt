@@ -1,5 +1,5 @@
 //! What all threads of the daemon share. [P 15.2]
-ghost use Rattle.odb_hub.specs.Kept.{IsNew};
+ghost use Rattle.odb_hub.specs.Guarded.{IsNew};
 
 use crate::desk::Desk;
 use crate::fault::Which;
@@ -9,11 +9,11 @@ use crate::notices::Notices;
 use crate::pace::{Pace, micros_of};
 use crate::second::Second;
 use crate::serve::Terms;
-use crate::tuning::{BRIEF, FIRST_GROUP, SETTLES, SHORT, SLOW};
+use crate::tuning::{BRIEF, FIRST_GROUP, FIRST_TIME, JOURNAL_ROUNDS, LOOKED_FOR, SHORT, SLOW};
 use odb_core::{Core, EventRefusal, MAX_SESSIONS, SessionId};
 use odb_hub::{BatchOutcome, Counted, Hub, Inbox, Round, Seat};
 use odb_par::Open;
-use odb_waking::PumpPlace;
+use odb_waking::PumpStage;
 use std::alloc::{AllocError, Global};
 use std::io;
 use std::net::SocketAddr;
@@ -35,6 +35,8 @@ pub(crate) struct SubmittedTurn {
     pub(crate) taken: usize,
     /// Whether it had the lock for long.
     pub(crate) is_slow: bool,
+    /// Whether it came while no round ran, or had just ended, and none was to begin.
+    came_calmly: bool,
 }
 
 impl SubmittedTurn {
@@ -61,8 +63,8 @@ pub(crate) struct Begun {
 impl Begun {
     ghost use Rattle.std.specs.Prelude.{◌≡◌};
 
-    /// Has it noted why transactions fail, if that is to be logged.
-    pub(crate) fn noting_failures(self, notes: bool) -> Begun
+    /// Has the transactions kept that fail, if why they do is to be logged.
+    pub(crate) fn keeping_failures(self, keeps: bool) -> Begun
         ensures { result.core ≡ self.core }
     {
         let Begun {
@@ -70,8 +72,8 @@ impl Begun {
             mut core,
             start,
         } = self;
-        if notes {
-            core.note_failures();
+        if keeps {
+            core.keep_failures();
         }
         Begun { alloc, core, start }
     }
@@ -253,6 +255,7 @@ impl<L: Ledger> Daemon<L> {
         most: usize,
     ) -> SubmittedTurn {
         let before = inbox.pending();
+        let came_calmly = self.pace.is_calm(self.micros(rt));
         let now = self.now(rt);
         let begun = Instant::now(rt);
         let submitted = inbox.submit_run(rt, hub, seat, now, most);
@@ -260,6 +263,7 @@ impl<L: Ledger> Daemon<L> {
             submitted,
             taken: before.saturating_sub(inbox.pending()),
             is_slow: has_lasted(rt, &begun, SLOW),
+            came_calmly,
         }
     }
 
@@ -269,6 +273,7 @@ impl<L: Ledger> Daemon<L> {
             submitted,
             taken,
             is_slow: _,
+            came_calmly,
         } = turn;
         let Ok(submitted) = submitted else {
             return;
@@ -279,14 +284,14 @@ impl<L: Ledger> Daemon<L> {
         }
         self.wake_called();
         if !is_quiet(&submitted.owes) {
-            self.tell_all(rt, submitted.few, taken.max(1) as u64);
+            self.tell_all(rt, submitted.few, came_calmly, taken.max(1) as u64);
         }
     }
 
     /// Ends a session, and has those told who own its locks then. Where memory is refused the seat comes back.
-    pub(crate) fn part<R: Wait>(&self, rt: &R, seat: Seat<L>) -> Result<(), Seat<L>> {
-        let parted = self.hub.enter(rt).part(seat);
-        match parted {
+    pub(crate) fn leave<R: Wait>(&self, rt: &R, seat: Seat<L>) -> Result<(), Seat<L>> {
+        let outcome = self.hub.enter(rt).leave(seat);
+        match outcome {
             Ok(()) => {
                 self.pace.alarm.tell(1);
                 Ok(())
@@ -306,84 +311,153 @@ impl<L: Ledger> Daemon<L> {
     }
 
     /// Gives each session its next message after so many requests, one or more, where few are owed something, and where the
-    /// pump sleeps and lets others, so that an update doesn't wait for the pump. The pump does the rest. Step: `keeps_silent`, where
-    /// few are owed something or one request came alone, and the round leaves nothing owed; else it tells the pump.
-    fn tell_all<R: Threads + Wait + Clock + Sync>(&self, rt: &R, few: bool, requests: u64) {
+    /// pump sleeps and lets others, so that an update doesn't wait for the pump. The pump does what is left. Step: `keeps_silent`,
+    /// where few are owed something or one request came alone, and the round leaves nothing owed; else it tells or calls the pump.
+    fn tell_all<R: Threads + Wait + Clock + Sync>(
+        &self,
+        rt: &R,
+        few: bool,
+        came_calmly: bool,
+        requests: u64,
+    ) {
         let is_lone = requests == 1;
+        let come_singly = self.pace.counts_as_met(requests) && is_lone && came_calmly;
         if few || self.pace.lets_others(is_lone, self.micros(rt)) {
-            let round = self.give(rt, is_lone);
+            let round = self.give(rt, is_lone, 0);
             if let Ok(round) = round {
                 if !round.owes && (few || is_lone) {
                     return;
                 }
+                self.pace.set_next(round.next.unwrap_or(SessionId::MAX));
             }
+        } else if come_singly {
+            self.pace.alarm.call();
+            return self.give_first(rt);
         }
         self.pace.alarm.tell(requests);
     }
 
+    /// Gives sessions their next message, group by group, until the pump has begun, which was called and gives the others theirs, or
+    /// for some time: a thread that sleeps or pauses takes its time to begin.
+    fn give_first<R: Threads + Wait + Clock + Sync>(&self, rt: &R) {
+        let begun = Instant::now(rt);
+        let mut from = 0;
+        for _ in rt.forever() {
+            if self.pace.is_running() || has_lasted(rt, &begun, FIRST_TIME) {
+                return;
+            }
+            let Ok(group) = self.give_group(rt, from, FIRST_GROUP) else {
+                return;
+            };
+            from = group.next.unwrap_or(SessionId::MAX);
+            self.pace.set_next(from);
+            if group.next.is_none() {
+                return;
+            }
+        }
+    }
+
     /// Pumps until the daemon ends.
     pub(crate) fn pump<R: Threads + Wait + Clock + Sync>(&self, rt: &R) {
-        let mut turns: u64 = 0;
-        let mut place = PumpPlace::new();
+        let mut rounds: u64 = 0;
+        let mut stage = PumpStage::new();
         for _ in rt.forever() {
             if self.ended.load(Ordering::SeqCst) != 0 {
                 return;
             }
-            turns = turns.saturating_add(1);
-            if turns >= SETTLES {
-                self.hub.enter(rt).settle();
-                turns = 0;
+            rounds = rounds.saturating_add(1);
+            if rounds >= JOURNAL_ROUNDS {
+                self.hub.enter(rt).begin_journal_anew();
+                rounds = 0;
             }
-            self.turn(rt, &mut place);
+            self.pump_once(rt, &mut stage);
         }
     }
 
-    /// Tries the transactions that are due, gives each session its next message, and pauses: it rests where more may come,
-    /// and sleeps where nothing is owed until something may be, or a transaction may be due.
-    fn turn<R: Threads + Wait + Clock + Sync>(&self, rt: &R, place: &mut PumpPlace)
-        requires { place.old ≡ begins }
-        ensures { place.new ≡ begins }
+    /// Tries the transactions that are due, gives each session its next message, and waits: it pauses where more may
+    /// come, and sleeps where nothing is owed until something may be, or a transaction may be due.
+    fn pump_once<R: Threads + Wait + Clock + Sync>(&self, rt: &R, stage: &mut PumpStage)
+        requires { stage.old ≡ begins }
+        ensures { stage.new ≡ begins }
     {
-        let is_lone = self.pace.alarm.told() == 1;
-        self.pace.alarm.begin(place);
+        let is_lone = self.pace.is_lone();
+        self.pace.alarm.begin(stage);
         let now = self.now(rt);
         drop(self.hub.enter(rt).tick(now));
         self.log_failures(rt);
-        match self.give(rt, is_lone) {
+        match self.give_and_forget(rt, is_lone) {
             Ok(round) => {
                 let left = self.left(rt, round.deadline);
-                self.pace.pause(rt, round, left, place);
+                self.pace.wait_after(rt, round, left, stage);
             }
             Err(_) => {
                 self.give_each(rt, now);
-                self.pace.pause_after_refusal(rt, place);
+                self.pace.pause_after_refusal(rt, stage);
             }
         }
     }
 
-    /// Gives each session its next message, and wakes the threads that serve them: after a lone request group by group, else all in
-    /// one round, since in a stream each is told of several requests at once.
-    fn give<R: Threads + Wait + Clock + Sync>(
+    /// Gives each session its next message, as `give` does: after a lone request first those that no other thread told of it, and
+    /// the others where something is owed still once those are forgotten that are owed nothing.
+    fn give_and_forget<R: Threads + Wait + Clock + Sync>(
         &self,
         rt: &R,
         is_lone: bool,
     ) -> Result<Round, AllocError> {
+        let next = self.pace.take_next();
+        if !is_lone {
+            return self.give(rt, is_lone, 0);
+        }
+        let given = self.give(rt, is_lone, next)?;
+        let round = together(&given, &self.forget_resting(rt));
+        if next == 0 || !round.owes {
+            return Ok(round);
+        }
+        let others = self.give(rt, is_lone, 0)?;
+        Ok(together(&round, &others))
+    }
+
+    /// Has those forgotten that are owed nothing, some at a time: others have the lock in between. It returns what is owed then, as
+    /// a round that gave nothing.
+    fn forget_resting<R: Threads + Wait + Clock + Sync>(&self, rt: &R) -> Round {
+        let mut all = self.hub.enter(rt).forget_resting(rt, 0, LOOKED_FOR);
+        for _ in rt.forever() {
+            let Some(next) = all.next else {
+                break;
+            };
+            let group = self.hub.enter(rt).forget_resting(rt, next, LOOKED_FOR);
+            all = together(&all, &group);
+        }
+        all
+    }
+
+    /// Gives each session its next message, and wakes the threads that serve them: after a lone request group by group, and from this
+    /// number on, else all in one round, since in a stream each is told of several requests at once.
+    fn give<R: Threads + Wait + Clock + Sync>(
+        &self,
+        rt: &R,
+        is_lone: bool,
+        from: SessionId,
+    ) -> Result<Round, AllocError> {
+        self.pace.begin_round();
         let round = if is_lone {
-            self.give_groups(rt)
+            self.give_groups(rt, from)
         } else {
             self.give_group(rt, 0, usize::MAX)
         };
-        if let Ok(round) = &round {
-            self.pace.note(*round, self.micros(rt));
-        }
+        self.pace.end_round(&round, from == 0, self.micros(rt));
         round
     }
 
-    /// Gives each session its next message, group by group: what one group was given is written while the next is composed, and
-    /// others have the lock in between.
-    fn give_groups<R: Threads + Wait + Clock + Sync>(&self, rt: &R) -> Result<Round, AllocError> {
+    /// Gives each session from this number on its next message, group by group: what one group was given is written while the next
+    /// is composed, and others have the lock in between. Whom that leaves owed nothing the pump looks for.
+    fn give_groups<R: Threads + Wait + Clock + Sync>(
+        &self,
+        rt: &R,
+        from: SessionId,
+    ) -> Result<Round, AllocError> {
         let mut most = FIRST_GROUP;
-        let mut group = self.give_group(rt, 0, most)?;
+        let mut group = self.give_group(rt, from, most)?;
         let mut all = group;
         for _ in rt.forever() {
             let Some(next) = group.next else {

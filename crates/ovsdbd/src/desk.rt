@@ -5,8 +5,8 @@ ghost use Rattle.odb_waking.specs.Teller.{ended, flags, rouses, swaps};
 
 use mio::net::TcpStream;
 use mio::{Poll, Token, Waker};
-use odb_hub::Calls;
-use odb_waking::{LoopPlace, RouserPlace};
+use odb_hub::Wakes;
+use odb_waking::{LoopStage, RouserStage};
 use std::alloc::{AllocError, Global};
 use std::sync::atomic::{AtomicU64, Ordering};
 use std::sync::{Arc, Mutex, Wait};
@@ -23,7 +23,7 @@ pub(crate) const WOKEN: Token = Token(usize::MAX);
 #[derive(Drop)]
 pub(crate) struct Desk {
     alloc: Global,
-    pub(crate) calls: Arc<Calls>,
+    pub(crate) wakes: Arc<Wakes>,
     waker: Waker,
     asleep: AtomicU64,
     /// Whether connections came, or none will come any more, since it last looked.
@@ -45,7 +45,7 @@ impl Desk {
     pub(crate) fn new(alloc: Global, poll: &Poll) -> io::Result<Desk> {
         Ok(Desk {
             alloc,
-            calls: Arc::new(alloc, Calls::new(alloc)?)?,
+            wakes: Arc::new(alloc, Wakes::new(alloc)?)?,
             waker: Waker::new(poll.registry(), WOKEN)?,
             asleep: AtomicU64::new(0),
             came: AtomicU64::new(0),
@@ -69,38 +69,38 @@ impl Desk {
 
     /// Gives the thread a connection, which is closed where memory is refused or the thread takes none.
     pub(crate) fn give<R: Wait>(&self, rt: &R, stream: TcpStream) -> Result<(), AllocError> {
-        let place = self.push(rt, stream)?;
+        let stage = self.push(rt, stream)?;
         self.count.fetch_add(1, Ordering::SeqCst);
-        self.tell(place);
+        self.tell(stage);
         Ok(())
     }
 
-    fn push<R: Wait>(&self, rt: &R, stream: TcpStream) -> Result<RouserPlace, AllocError>
-        ensures { IfOk result (λ place. place ≡ flags) }
+    fn push<R: Wait>(&self, rt: &R, stream: TcpStream) -> Result<RouserStage, AllocError>
+        ensures { IfOk result (λ stage. stage ≡ flags) }
     {
         let mut given = self.given.lock(rt);
         if given.is_closed {
             return Err(AllocError);
         }
         given.streams.push(stream)?;
-        Ok(RouserPlace::of_what_came())
+        Ok(RouserStage::of_what_came())
     }
 
     /// Says that something came, and wakes the thread if it sleeps.
-    fn tell(&self, place: RouserPlace)
-        requires { place ≡ flags }
+    fn tell(&self, stage: RouserStage)
+        requires { stage ≡ flags }
     {
-        let mut place = place;
-        self.flag(&mut place);
-        self.wake(place);
+        let mut stage = stage;
+        self.flag(&mut stage);
+        self.wake(stage);
     }
 
-    fn flag(&self, place: &mut RouserPlace)
-        requires { place.old ≡ flags }
-        ensures { place.new ≡ swaps }
+    fn flag(&self, stage: &mut RouserStage)
+        requires { stage.old ≡ flags }
+        ensures { stage.new ≡ swaps }
     {
         self.came.store(1, Ordering::SeqCst);
-        place.flagged();
+        stage.flagged();
     }
 
     /// Leaves the desk, where the thread can't begin: the connections that it was given are closed, and it is given none.
@@ -113,7 +113,7 @@ impl Desk {
     /// Says that no connection will come any more.
     pub(crate) fn close<R: Wait>(&self, rt: &R) {
         self.given.lock(rt).is_closed = true;
-        self.tell(RouserPlace::of_what_came());
+        self.tell(RouserStage::of_what_came());
     }
 
     /// Takes the connections that were given, if something came since the last time; also whether none will come any more.
@@ -129,79 +129,79 @@ impl Desk {
     /// Wakes the thread, if it was called and sleeps: for whoever gave its sessions something, once the lock is free. Step:
     /// `giver_looks`.
     pub(crate) fn wake_if_called(&self) {
-        if self.calls.is_any() {
-            self.wake(RouserPlace::of_a_call());
+        if self.wakes.is_any() {
+            self.wake(RouserStage::of_a_call());
         }
     }
 
     /// Wakes the thread if it sleeps.
-    fn wake(&self, place: RouserPlace)
-        requires { place ≡ swaps }
+    fn wake(&self, stage: RouserStage)
+        requires { stage ≡ swaps }
     {
-        let mut place = place;
-        if self.finds_asleep(&mut place) {
-            self.rouse(&mut place);
+        let mut stage = stage;
+        if self.finds_asleep(&mut stage) {
+            self.rouse(&mut stage);
         }
-        place.end();
+        stage.end();
     }
 
     /// Returns whether the thread counts as asleep: then it doesn't any more. Step: `giver_swaps`.
-    fn finds_asleep(&self, place: &mut RouserPlace) -> bool
-        requires { place.old ≡ swaps }
-        ensures { place.new ≡ (if result then rouses else ended) }
+    fn finds_asleep(&self, stage: &mut RouserStage) -> bool
+        requires { stage.old ≡ swaps }
+        ensures { stage.new ≡ (if result then rouses else ended) }
     {
         let is_asleep = self.asleep.swap(0, Ordering::SeqCst) != 0;
-        place.swapped(is_asleep);
+        stage.swapped(is_asleep);
         is_asleep
     }
 
     /// Wakes the thread. Step: `giver_wakes`.
-    fn rouse(&self, place: &mut RouserPlace)
-        requires { place.old ≡ rouses }
-        ensures { place.new ≡ ended }
+    fn rouse(&self, stage: &mut RouserStage)
+        requires { stage.old ≡ rouses }
+        ensures { stage.new ≡ ended }
     {
         drop(self.waker.wake());
-        place.roused();
+        stage.roused();
     }
 
     /// Counts the thread as asleep. False says that it is to look again first, and counts as awake: it was called, or
     /// connections came.
-    pub(crate) fn lies_down(&self, place: &mut LoopPlace) -> bool
-        requires { place.old ≡ loops.lies_down }
-        ensures { place.new ≡ (if result then loops.sleeps else loops.rises) }
+    pub(crate) fn lies_down(&self, stage: &mut LoopStage) -> bool
+        requires { stage.old ≡ loops.lies_down }
+        ensures { stage.new ≡ (if result then loops.sleeps else loops.rises) }
     {
-        self.count_as_asleep(place);
-        if self.was_told(place) {
+        self.count_as_asleep(stage);
+        if self.was_signaled(stage) {
             self.asleep.store(0, Ordering::SeqCst);
             return false;
         }
         true
     }
 
-    fn count_as_asleep(&self, place: &mut LoopPlace)
-        requires { place.old ≡ loops.lies_down }
-        ensures { place.new ≡ loops.looks_again }
+    fn count_as_asleep(&self, stage: &mut LoopStage)
+        requires { stage.old ≡ loops.lies_down }
+        ensures { stage.new ≡ loops.looks_again }
     {
         self.asleep.store(1, Ordering::SeqCst);
-        place.lay_down();
+        stage.lay_down();
     }
 
     /// Returns whether the thread was called, or something came, since it last looked.
-    fn was_told(&self, place: &mut LoopPlace) -> bool
-        requires { place.old ≡ loops.looks_again }
-        ensures { place.new ≡ (if result then loops.rises else loops.sleeps) }
+    fn was_signaled(&self, stage: &mut LoopStage) -> bool
+        requires { stage.old ≡ loops.looks_again }
+        ensures { stage.new ≡ (if result then loops.rises else loops.sleeps) }
     {
-        let is_told = self.calls.is_any() || self.came.load(Ordering::SeqCst) != 0;
-        place.looked(is_told);
-        is_told
+        let is_signaled = self.wakes.is_any() || self.came.load(Ordering::SeqCst) != 0;
+        stage.looked(is_signaled);
+        is_signaled
     }
 
     /// Counts the thread as awake.
-    pub(crate) fn gets_up(&self, place: &mut LoopPlace)
-        requires { place.old ≡ loops.rises }
-        ensures { place.new ≡ loops.begins }
+    pub(crate) fn gets_up(&self, stage: &mut LoopStage)
+        requires { stage.old ≡ loops.rises }
+        ensures { stage.new ≡ loops.begins }
     {
         self.asleep.store(0, Ordering::SeqCst);
-        place.rose();
+        stage.rose();
     }
 }

@@ -116,7 +116,7 @@ impl FrontSeat {
         };
         for out in outs {
             if out.before.as_slice().starts_with(SUCCESS) {
-                return self.ids.note(Destination::Server, naming);
+                return self.ids.record_naming(Destination::Server, naming);
             }
         }
         Ok(())

@@ -1,13 +1,13 @@
 //! A file of messages, which is submitted before the daemon listens. [P 15.2]
 
-use crate::connection::{RandomIdentifiers, part_at_last};
+use crate::connection::{RandomIdentifiers, leave_at_last};
 use crate::daemon::{Daemon, Daemons};
 use crate::fault::{LoadFault, ProgramFault};
 use crate::front::FrontEnd;
 use crate::second::Second;
 use crate::tuning::FILE_PIECE;
 use odb_front::{Destination, destination_of};
-use odb_hub::{Bell, Calls, Outbox, Seat, Submission, submission_of};
+use odb_hub::{Bell, Outbox, Seat, Submission, Wakes, submission_of};
 use odb_script::RunFault;
 use odb_wire::{Framer, Message, Request, Response, WireFault};
 use rand::make_rng;
@@ -102,7 +102,7 @@ impl<'a, L: Ledger, R: Threads + Wait + Clock + Sync> LoadSession<'a, L, R> {
             outbox: _,
             replies: _,
         } = self;
-        part_at_last(rt, daemon, seat);
+        leave_at_last(rt, daemon, seat);
     }
 
     /// Submits what is alone in the batch, and reads its reply. It returns why it didn't go through, if it didn't.
@@ -296,8 +296,8 @@ impl<'a, L: Ledger, M: Ledger, R: Threads + Wait + Clock + Sync> Loader<'a, L, M
 
 /// Makes a bell that calls nobody: what the session was given is there when a call returns.
 fn silent_bell(alloc: Global) -> Result<Bell, AllocError> {
-    let calls = Arc::new(alloc, Calls::new(alloc)?)?;
-    Ok(Bell::new(calls, 0))
+    let wakes = Arc::new(alloc, Wakes::new(alloc)?)?;
+    Ok(Bell::new(wakes, 0))
 }
 
 /// Returns what is submitted, alone.

@@ -8,7 +8,7 @@
 #![tactic(auto)]
 
 ghost use Rattle.std.specs.Prelude.{IfOk, IfSome};
-ghost use Rattle.odb_hub.specs.Kept.{IsNew};
+ghost use Rattle.odb_hub.specs.Guarded.{IsNew};
 
 mod cause_text;
 mod clerk;
@@ -540,7 +540,7 @@ fn begin_one<R: RandomSource>(
         kept: words.get_one("kept").unwrap_or(KEPT) as usize,
     };
     match begin(alloc, schema, hashing, commits, moment) {
-        Ok(begun) => Ok(begun.noting_failures(words.get_str("log").is_some())),
+        Ok(begun) => Ok(begun.keeping_failures(words.get_str("log").is_some())),
         Err(fault) => Err(ProgramFault::Run(fault)),
     }
 }

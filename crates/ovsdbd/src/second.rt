@@ -1,6 +1,6 @@
 //! The second database that is served, and what a connection has there. [P 15.4]
 
-use crate::connection::{RandomIdentifiers, part_at_last, part_once};
+use crate::connection::{RandomIdentifiers, leave_at_last, leave_once};
 use crate::daemon::{Daemon, SubmittedTurn};
 use crate::front::identifier;
 use crate::tuning::RETRY_PAUSE;
@@ -213,7 +213,7 @@ impl<'a, M: Ledger> SecondSeat<'a, M> {
         }
         let NamingRequest { id, naming } = asked;
         if id.is_answered_by(text) {
-            return ids.note(Destination::Second, naming);
+            return ids.record_naming(Destination::Second, naming);
         }
         drop(naming);
         Ok(())
@@ -221,16 +221,16 @@ impl<'a, M: Ledger> SecondSeat<'a, M> {
 
     /// Ends a connection's sessions in both databases, if these are open: in the second first, so that who is told that a lock is its
     /// own owns it in both. False says that memory was refused, and that both are open still.
-    pub(crate) fn part_both<L: Ledger, R: Wait + Clock>(
+    pub(crate) fn leave_both<L: Ledger, R: Wait + Clock>(
         &mut self,
         rt: &R,
         daemon: &Daemon<L>,
         first: &mut Option<Seat<L>>,
     ) -> bool {
         let order = self.second.order.lock(rt);
-        let is_over = part_once(rt, &self.second.daemon, &mut self.seat);
+        let is_over = leave_once(rt, &self.second.daemon, &mut self.seat);
         if is_over && let Some(first) = first.take() {
-            part_at_last(rt, daemon, first);
+            leave_at_last(rt, daemon, first);
         }
         drop(order);
         is_over
@@ -253,10 +253,10 @@ impl<'a, M: Ledger> SecondSeat<'a, M> {
         } = self;
         let order = second.order.lock(rt);
         if let Some(seat) = seat {
-            part_at_last(rt, &second.daemon, seat);
+            leave_at_last(rt, &second.daemon, seat);
         }
         if let Some(first) = first {
-            part_at_last(rt, daemon, first);
+            leave_at_last(rt, daemon, first);
         }
         drop(order);
     }

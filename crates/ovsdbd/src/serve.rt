@@ -1,7 +1,7 @@
 //! The daemon: it listens, and serves the connections by a few threads, each many of them. [P 15.2]
 
 ghost use Rattle.std.specs.Prelude.{◌≡◌, IfOk, IfSome};
-ghost use Rattle.odb_hub.specs.Kept.{IsNew};
+ghost use Rattle.odb_hub.specs.Guarded.{IsNew};
 
 use crate::clerk::serve_desk;
 use crate::daemon::{Begun, Common, Daemon, Daemons, Patience};

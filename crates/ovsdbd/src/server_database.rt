@@ -53,7 +53,7 @@ pub(crate) struct ServerBegun {
 }
 
 impl ServerBegun {
-    /// Makes that of a server of the databases of these schemas.
+    /// Makes that of a server of the databases of these schemas, once it is seen that one can be made of it.
     pub(crate) fn new<R: RandomSource>(
         rt: &R,
         alloc: Global,
@@ -62,13 +62,15 @@ impl ServerBegun {
     ) -> Result<ServerBegun, ProgramFault> {
         let hashing = RandomState::new(rt).map_err(|_| memory())?;
         let filling = filling_request(alloc, schemas)?;
-        Ok(ServerBegun {
+        let begun = ServerBegun {
             alloc,
             hashing,
             run: identifiers.rng.next_u64(),
             filling,
             seed: identifiers.rng.next_u64(),
-        })
+        };
+        drop(begun.start()?);
+        Ok(begun)
     }
 
     /// Makes the database of a thread, which has the same rows, identifiers and versions as that of each other.

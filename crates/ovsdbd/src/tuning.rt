@@ -10,7 +10,8 @@ pub(crate) const FILE_PIECE: usize = 65_536;
 /// How many events a thread takes at once.
 pub(crate) const EVENTS: usize = 256;
 
-/// How many connections of those that ask something, and of the others, have a turn before a thread looks for events again.
+/// How many connections of those that have requests, and of the others, have a turn before a thread looks for events
+/// again.
 pub(crate) const TURNS: usize = 32;
 
 /// After how many microseconds of such turns it looks for events all the same, so that who asks little waits for few of many.
@@ -36,21 +37,31 @@ pub(crate) const LOOKS: u64 = 8;
 pub(crate) const HEAVY: usize = 4_000;
 
 /// How many sessions are in the first group, where they are given their messages group by group.
-pub(crate) const FIRST_GROUP: usize = 16;
+pub(crate) const FIRST_GROUP: usize = 4;
 
-/// After how many turns of the pump the journal begins anew, which else grows.
-pub(crate) const SETTLES: u64 = 65_536;
+/// Of how many sessions it is looked at once whether they are owed nothing, after they were told group by group.
+pub(crate) const LOOKED_FOR: usize = 8;
 
-/// How many times as long as its round took the pump rests at most, where much comes.
-pub(crate) const REST: u64 = 3;
+/// For how many microseconds the thread that submitted gives sessions their messages while the pump is called and begins.
+pub(crate) const FIRST_TIME: u64 = 150;
 
-/// For how many microseconds the pump rests at least. A round that took less is brief.
+/// After how many rounds of the pump the journal begins anew, which else grows.
+pub(crate) const JOURNAL_ROUNDS: u64 = 65_536;
+
+/// How many times as long as its round took the pump pauses at most, where much comes.
+pub(crate) const PAUSES: u64 = 3;
+
+/// For how many microseconds the pump pauses at least. A round that took less is brief.
 pub(crate) const BRIEF: u64 = 100;
 
 /// Up to how many microseconds a round takes that another thread runs where little comes.
 pub(crate) const SHORT: u64 = 1_000;
 
-/// For how many microseconds the pump rests at most before it looks whether much comes.
+/// How many microseconds after a round a request that comes counts as of a client that waits to be told, and not of one that asked
+/// meanwhile.
+pub(crate) const CALM: u64 = 64;
+
+/// For how many microseconds the pump pauses at most before it looks whether much comes.
 pub(crate) const SOON: u64 = 500;
 
 /// How many milliseconds of what a round took count at most.
@@ -60,7 +71,7 @@ pub(crate) const LONG: u64 = 33;
 /// midst of it.
 pub(crate) const EACH: u64 = 33;
 
-/// For how many milliseconds the pump rests after a round for which memory was refused.
+/// For how many milliseconds the pump pauses after a round for which memory was refused.
 pub(crate) const REFUSED: u64 = 3;
 
 /// For how many milliseconds a thread pauses where memory was refused for what it is to try again, as for the end of a session.

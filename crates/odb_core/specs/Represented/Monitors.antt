@@ -17,7 +17,7 @@ use Rattle.odb_service.specs.Service.{Service}
 use Rattle.odb_service.specs.Session.{Session, renamed, same_id, shift}
 use Rattle.odb_service.specs.World.{World, asked_of, fail, post, watched}
 use Rattle.odb_sessions.specs.Named.{Named}
-use Rattle.odb_sessions.specs.Represented.Queued.{filters_of}
+use Rattle.odb_sessions.specs.Represented.Item.{filters_of}
 use Rattle.odb_sessions.specs.declared.item.Changes.{Changes}
 
 -- new filters by the names of their tables

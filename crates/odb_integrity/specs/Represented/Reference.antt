@@ -4,7 +4,7 @@ use Rattle.std.specs.List.{enumerate_from, list_any}
 use Rattle.odb_atoms.specs.ColType.{Base, ColType}
 use Rattle.odb_schema.specs.Schema.{Schema}
 use Rattle.odb_tables.specs.Database.{Db, table_at}
-use Rattle.odb_tables.specs.Kept.{refers_at}
+use Rattle.odb_tables.specs.Indexed.{refers_at}
 use Rattle.odb_integrity.specs.Settlement.{RowId, is_there, is_weak, same_row, target}
 use Rattle.odb_integrity.specs.declared.referrers.Reference.{Reference}
 

@@ -24,12 +24,12 @@ claimed stolen l s name = map.insert l name (with_claim (record { session = s; s
 abbrev pub released : ℕ → Locks → List ℕ → Locks
 released s l name = put_lock l name (without s (lock_of l name))
 
-abbrev pub told_of_release : ℕ → (List ℕ → Lock) → List ℕ → List Notice
-told_of_release s lock_at name = notice_to (next_of s (lock_at name).claims) false name
+abbrev pub notice_of_release : ℕ → (List ℕ → Lock) → List ℕ → List Notice
+notice_of_release s lock_at name = notice_to (next_of s (lock_at name).claims) false name
 
 -- the same for one name after another
 abbrev pub all_released : ℕ → Locks → List (List ℕ) → Locks
 all_released s l names = fold (released s) l names
 
-abbrev pub all_told : ℕ → (List ℕ → Lock) → List (List ℕ) → List Notice
-all_told s lock_at names = flat_map (told_of_release s lock_at) names
+abbrev pub all_notices : ℕ → (List ℕ → Lock) → List (List ℕ) → List Notice
+all_notices s lock_at names = flat_map (notice_of_release s lock_at) names

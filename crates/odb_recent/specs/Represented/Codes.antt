@@ -13,11 +13,11 @@ old_row_code = coded× uuid_code (coded_option row_code)
 abbrev pub olds_code : Coded Olds
 olds_code = map.code uuid_code (coded_option row_code)
 
-abbrev pub old_rows_code : Coded (ℕ × Olds)
-old_rows_code = coded× coded_ℕ olds_code
+abbrev pub table_undo_code : Coded (ℕ × Olds)
+table_undo_code = coded× coded_ℕ olds_code
 
 abbrev pub undo_code : Coded Undo
-undo_code = coded_list old_rows_code
+undo_code = coded_list table_undo_code
 
 abbrev pub recent_code : Coded Recent
 recent_code =

@@ -1,4 +1,4 @@
--- Why a commit can't be noted.
+-- Why a commit can't be counted.
 use Rattle.std.specs.Prelude.{ℕ, ◌-◌, ◌^◌, ◌==◌, cond}
 use Rattle.odb_recent.specs.declared.refusal.Refusal.{Refusal}
 use Rattle.odb_recent.specs.declared.refusal.Refusal.TheVariants.{Memory, TooMany}

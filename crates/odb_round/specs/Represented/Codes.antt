@@ -20,8 +20,8 @@ use Rattle.odb_service.specs.Session.{Monitor}
 use Rattle.odb_service.specs.WorldCode.{monitor_code}
 use Rattle.odb_sessions.specs.Alike.{Likeness, Stand}
 use Rattle.odb_sessions.specs.Filtered.{Filters}
-use Rattle.odb_sessions.specs.Held.{Held, Sessions}
-use Rattle.odb_sessions.specs.Represented.Codes.{held_code, sessions_code, told_code}
+use Rattle.odb_sessions.specs.Marked.{MarkedMonitor, Sessions}
+use Rattle.odb_sessions.specs.Represented.Codes.{marked_monitor_code, sessions_code, told_code}
 use Rattle.odb_sessions.specs.Told.{ToldMarks}
 
 abbrev pub basis_code : Coded Basis
@@ -31,12 +31,12 @@ abbrev pub filters_code : Coded Filters
 filters_code = coded_list (coded× (coded_list coded_ℕ) filter_code)
 
 abbrev pub ahead_code : Coded Ahead
-ahead_code = code_by (Held × Option Filters) (coded× held_code (coded_option filters_code)) (λ a. (a.held, a.told)) (λ p. record { held = p.0; told = p.1 }) (λ a. refl)
+ahead_code = code_by (MarkedMonitor × Option Filters) (coded× marked_monitor_code (coded_option filters_code)) (λ a. (a.marked, a.told)) (λ p. record { marked = p.0; told = p.1 }) (λ a. refl)
 
 abbrev pub stand_code : Coded Stand
 stand_code =
     code_by (Request × (Option Filter × Option (ℕ × ℕ))) (coded× request_code (coded× (coded_option filter_code) (coded_option (coded× coded_ℕ coded_ℕ))))
-    (λ s. (s.request, (s.told, s.place))) (λ p. record { request = p.0; told = p.1.0; place = p.1.1 }) (λ s. refl)
+    (λ s. (s.request, (s.told, s.version))) (λ p. record { request = p.0; told = p.1.0; version = p.1.1 }) (λ s. refl)
 
 abbrev pub likeness_code : Coded Likeness
 likeness_code =
@@ -62,9 +62,9 @@ wanted_code =
 
 abbrev pub foreseen_code : Coded Foreseen
 foreseen_code =
-    code_by (Basis × (Chains × (Recent × (List Job × (List Likeness × (List Held × List Monitor))))))
-    (coded× basis_code (coded× chains_code (coded× recent_code (coded× (coded_list job_code) (coded× (coded_list likeness_code) (coded× (coded_list held_code) (coded_list monitor_code)))))))
-    (λ f. (f.basis, (f.chains, (f.recent, (f.jobs, (f.likenesses, (f.held, f.monitors))))))) (λ p. record { basis = p.0; chains = p.1.0; recent = p.1.1.0; jobs = p.1.1.1.0; likenesses = p.1.1.1.1.0; held = p.1.1.1.1.1.0; monitors = p.1.1.1.1.1.1 }) (λ f. refl)
+    code_by (Basis × (Chains × (Recent × (List Job × (List Likeness × (List MarkedMonitor × List Monitor))))))
+    (coded× basis_code (coded× chains_code (coded× recent_code (coded× (coded_list job_code) (coded× (coded_list likeness_code) (coded× (coded_list marked_monitor_code) (coded_list monitor_code)))))))
+    (λ f. (f.basis, (f.chains, (f.recent, (f.jobs, (f.likenesses, (f.marked, f.monitors))))))) (λ p. record { basis = p.0; chains = p.1.0; recent = p.1.1.0; jobs = p.1.1.1.0; likenesses = p.1.1.1.1.0; marked = p.1.1.1.1.1.0; monitors = p.1.1.1.1.1.1 }) (λ f. refl)
 
 -- ---- takings
 

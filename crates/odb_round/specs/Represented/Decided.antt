@@ -11,7 +11,7 @@ use Rattle.odb_schema.specs.Schema.{Schema}
 use Rattle.odb_round.specs.Alike.{AreUnlike, IsLike, job_like}
 use Rattle.odb_sessions.specs.Alike.{Likeness}
 use Rattle.odb_sessions.specs.FirstTexts.{AreFirstTexts, FirstText, IsOfNow}
-use Rattle.odb_sessions.specs.Held.{Kept, Sessions}
+use Rattle.odb_sessions.specs.Marked.{MarkedSession, Sessions}
 use Rattle.odb_round.specs.Jobs.{Decision, IsFor, Shared, if_sent}
 use Rattle.odb_round.specs.ByMarks.{contents}
 use Rattle.odb_sessions.specs.Represented.Digest.{digest}
@@ -84,7 +84,7 @@ ArePlaced ls d = (n : ℕ) → All (IsPlaced ls) (bucket_at d n)
 
 -- it is of the monitor that stands at this place in a session that has this number
 abbrev pub IsSharedIn : Sessions → Shared → Type 0
-IsSharedIn m e = (s : ℕ) × (x : Kept) × (get m s ≡ Some x) × (x.watch ≡ Some e.watch.0) × (slice_get (asking_in x) e.watch.1 ≡ Some (e.likeness.notation, map (λ t. t.request) e.likeness.stands))
+IsSharedIn m e = (s : ℕ) × (x : MarkedSession) × (get m s ≡ Some x) × (x.watch ≡ Some e.watch.0) × (slice_get (asking_in x) e.watch.1 ≡ Some (e.likeness.notation, map (λ t. t.request) e.likeness.stands))
 
 -- the place is that of the job of the likeness
 abbrev pub IsPlaceOf : Chains → List Undo → List Job → Likeness → Option ℕ → Type 0

@@ -13,7 +13,7 @@ framing m j = record { job = j; text = λ d. whole_text m.before.items (compact_
 
 -- what is sent by a message, by what is composed of its job; nothing, where nothing is
 abbrev pub sending_under : List Job → Envelope → Option Sending
-sending_under js m = option_and_then (λ j. option_map (sent_with (framing m j)) (updates_of j)) (slice_get js m.job)
+sending_under js m = option_and_then (λ j. option_map (sent_with (framing m j)) (updates_of j)) (slice_get js m.place)
 
 -- this is sent by the message, if there is one, by these jobs and by each list that keeps them
 abbrev pub Tells : List Job → Option Envelope → Option Sending → Type 0

@@ -24,7 +24,7 @@ text_around before (Some body) after = composed_text before body after
 abbrev pub text_planned : List Job → Option Coming → model.Text
 text_planned js None = no_text
 text_planned js (Some Queued) = last_text
-text_planned js (Some (Composed m)) = text_around m.before.items (composition_at js m.job) m.after.items
+text_planned js (Some (Composed m)) = text_around m.before.items (composition_at js m.place) m.after.items
 
 -- what is sent, where this is the last item that is used up
 abbrev pub coming_sending : List Job → Option Coming → Option Item → Option Sending

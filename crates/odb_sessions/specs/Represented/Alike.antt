@@ -5,7 +5,7 @@ use Rattle.odb_cond.specs.Filter.{Filter}
 use Rattle.odb_request.specs.Request.{Notation, Request}
 use Rattle.odb_service.specs.Session.{filter_of}
 use Rattle.odb_sessions.specs.Alike.{Likeness, Stand, Asks, asks_of}
-use Rattle.odb_sessions.specs.Held.{Held, Watched}
+use Rattle.odb_sessions.specs.Marked.{MarkedMonitor, Watched}
 use Rattle.odb_sessions.specs.Represented.Job.{filters_by}
 use Rattle.odb_sessions.specs.Represented.Under.{filters_in}
 use Rattle.odb_sessions.specs.declared.way.Way.{Way}
@@ -45,29 +45,29 @@ told_in (way.Changed u) w = Some w.told
 told_in (way.Again told u) w = Some (filter_of (filters_in told) w.request.shape.name w.request.filter)
 told_in (way.Since r n) w = None
 
-abbrev pub place_in : Way → Mark → Option (ℕ × ℕ)
-place_in way.First m = None
-place_in way.Asked m = Some (m.table, m.place)
-place_in (way.Changed u) m = Some (m.table, m.place)
-place_in (way.Again told u) m = None
-place_in (way.Since r n) m = None
+abbrev pub version_in : Way → Mark → Option (ℕ × ℕ)
+version_in way.First m = None
+version_in way.Asked m = Some (m.table, m.version)
+version_in (way.Changed u) m = Some (m.table, m.version)
+version_in (way.Again told u) m = None
+version_in (way.Since r n) m = None
 
 abbrev pub stand_in : Way → Watched → Stand
-stand_in v w = record { request = record (w.request) { filter = filter_in v w.request }; told = told_in v w; place = place_in v w.mark }
+stand_in v w = record { request = record (w.request) { filter = filter_in v w.request }; told = told_in v w; version = version_in v w.mark }
 
 -- how a client stands to a table, without the names and the types that the schema has
 pub record Bare : Type 0 where
   pub asks : Asks
   pub told : Option Filter
-  pub place : Option (ℕ × ℕ)
+  pub version : Option (ℕ × ℕ)
 
 abbrev pub bare : Stand → Bare
-bare s = record { asks = asks_of s.request; told = s.told; place = s.place }
+bare s = record { asks = asks_of s.request; told = s.told; version = s.version }
 
 abbrev pub bare_in : Way → Watched → Bare
 bare_in v w = bare (stand_in v w)
 
-abbrev pub likeness_in : Held → Way → Likeness
+abbrev pub likeness_in : MarkedMonitor → Way → Likeness
 likeness_in x w = record { notation = x.notation; first = is_first w; ago = ago_in w; stands = map_list (stand_in w) x.tables }
 
 -- in which notation, whether it is a first reply with all, how many commits ago the client had what it asks, and how it stands to each table, without names and types
@@ -77,5 +77,5 @@ pub record BareLikeness : Type 0 where
   pub ago : Option ℕ
   pub stands : List Bare
 
-abbrev pub bare_likeness : Held → Way → BareLikeness
+abbrev pub bare_likeness : MarkedMonitor → Way → BareLikeness
 bare_likeness x w = record { notation = x.notation; first = is_first w; ago = ago_in w; stands = map_list (bare_in w) x.tables }

@@ -17,7 +17,7 @@ use Rattle.odb_service.specs.WorldCode.{earlier_code, item_code, session_code, w
 use Rattle.odb_tables.specs.Database.{Db, db_code}
 use Rattle.odb_sessions.specs.Book.{Book}
 use Rattle.odb_sessions.specs.FirstTexts.{FirstText}
-use Rattle.odb_sessions.specs.Held.{Held, Kept, Queued, Sessions, Watched, due, plain}
+use Rattle.odb_sessions.specs.Marked.{MarkedItem, MarkedMonitor, MarkedSession, Sessions, Watched, due, plain}
 use Rattle.odb_sessions.specs.Named.{Named}
 use Rattle.odb_sessions.specs.Started.{Starting}
 use Rattle.odb_sessions.specs.Stopped.{Changing}
@@ -26,29 +26,29 @@ use Rattle.odb_sessions.specs.Told.{ToldMarks}
 abbrev pub watched_code : Coded Watched
 watched_code = code_by (Request × (Filter × Mark)) (coded× request_code (coded× filter_code mark_code)) (λ w. (w.request, (w.told, w.mark))) (λ p. record { request = p.0; told = p.1.0; mark = p.1.1 }) (λ w. refl)
 
-abbrev pub held_code : Coded Held
-held_code = code_by (Data × (Notation × (List Watched × Option Uuid))) (coded× data_code (coded× notation_code (coded× (coded_list watched_code) (coded_option uuid_code)))) (λ h. (h.id, (h.notation, (h.tables, h.since)))) (λ p. record { id = p.0; notation = p.1.0; tables = p.1.1.0; since = p.1.1.1 }) (λ h. refl)
+abbrev pub marked_monitor_code : Coded MarkedMonitor
+marked_monitor_code = code_by (Data × (Notation × (List Watched × Option Uuid))) (coded× data_code (coded× notation_code (coded× (coded_list watched_code) (coded_option uuid_code)))) (λ h. (h.id, (h.notation, (h.tables, h.since)))) (λ p. record { id = p.0; notation = p.1.0; tables = p.1.1.0; since = p.1.1.1 }) (λ h. refl)
 
-abbrev queued_parts : Queued → Item ⊎ (Data × Held)
-queued_parts (plain i) = inl i
-queued_parts (due d h) = inr (d, h)
+abbrev marked_item_parts : MarkedItem → Item ⊎ (Data × MarkedMonitor)
+marked_item_parts (plain i) = inl i
+marked_item_parts (due d h) = inr (d, h)
 
-abbrev queued_from : Item ⊎ (Data × Held) → Queued
-queued_from (inl i) = plain i
-queued_from (inr p) = due p.0 p.1
+abbrev marked_item_from : Item ⊎ (Data × MarkedMonitor) → MarkedItem
+marked_item_from (inl i) = plain i
+marked_item_from (inr p) = due p.0 p.1
 
-pub queued_from-queued_parts : (q : Queued) → queued_from (queued_parts q) ≡ q
-queued_from-queued_parts (plain i) = refl
-queued_from-queued_parts (due d h) = refl
+pub marked_item_from-marked_item_parts : (q : MarkedItem) → marked_item_from (marked_item_parts q) ≡ q
+marked_item_from-marked_item_parts (plain i) = refl
+marked_item_from-marked_item_parts (due d h) = refl
 
-abbrev pub queued_code : Coded Queued
-queued_code = code_by (Item ⊎ (Data × Held)) (coded⊎ item_code (coded× data_code held_code)) queued_parts queued_from queued_from-queued_parts
+abbrev pub marked_item_code : Coded MarkedItem
+marked_item_code = code_by (Item ⊎ (Data × MarkedMonitor)) (coded⊎ item_code (coded× data_code marked_monitor_code)) marked_item_parts marked_item_from marked_item_from-marked_item_parts
 
-abbrev pub kept_code : Coded Kept
-kept_code = code_by (List Queued × (List Held × Option ℕ)) (coded× (coded_list queued_code) (coded× (coded_list held_code) (coded_option coded_ℕ))) (λ x. (x.queue, (x.monitors, x.watch))) (λ p. record { queue = p.0; monitors = p.1.0; watch = p.1.1 }) (λ x. refl)
+abbrev pub marked_session_code : Coded MarkedSession
+marked_session_code = code_by (List MarkedItem × (List MarkedMonitor × Option ℕ)) (coded× (coded_list marked_item_code) (coded× (coded_list marked_monitor_code) (coded_option coded_ℕ))) (λ x. (x.queue, (x.monitors, x.watch))) (λ p. record { queue = p.0; monitors = p.1.0; watch = p.1.1 }) (λ x. refl)
 
 abbrev pub sessions_code : Coded Sessions
-sessions_code = map.code coded_ℕ kept_code
+sessions_code = map.code coded_ℕ marked_session_code
 
 abbrev pub book_code : Coded Book
 book_code = code_by (Db × (ℕ × (Earlier × map.FinMap nat_cmp Session))) (coded× db_code (coded× coded_ℕ (coded× earlier_code (map.code coded_ℕ session_code)))) (λ b. (b.db, (b.commits, (b.earlier, b.sessions)))) (λ p. record { db = p.0; commits = p.1.0; earlier = p.1.1.0; sessions = p.1.1.1 }) (λ b. refl)

@@ -8,7 +8,7 @@ use Rattle.odb_sessions.specs.declared.composing.Envelope.{Envelope}
 
 -- it is a message of the job at this place, with this text by the table updates
 abbrev pub IsFrame : Envelope → ℕ → (Data → List ℕ) → Type 0
-IsFrame m n text = (m.job ≡ n) × ((d : Data) → whole_text m.before.items (compact_text d) m.after.items ≡ text d)
+IsFrame m n text = (m.place ≡ n) × ((d : Data) → whole_text m.before.items (compact_text d) m.after.items ≡ text d)
 
 -- a body that may be shared
 abbrev pub bytes_of : {Y Z : Type 0} → Arc (Vec ℕ Y) Z → List ℕ

@@ -32,12 +32,12 @@ multiplier = 0x9e3779b97f4a7c15
 abbrev pub mixed : ℕ → ℕ → ℕ
 mixed n word = ((n * multiplier) % 2 ^ 64 + word) % 2 ^ 64
 
-abbrev pub after_place : ℕ → Option (ℕ × ℕ) → ℕ
-after_place n None = n
-after_place n (Some p) = mixed n p.1
+abbrev pub after_version : ℕ → Option (ℕ × ℕ) → ℕ
+after_version n None = n
+after_version n (Some p) = mixed n p.1
 
 abbrev pub after_stand : ℕ → Stand → ℕ
-after_stand n s = after_place (mixed n (request_digest s.request)) s.place
+after_stand n s = after_version (mixed n (request_digest s.request)) s.version
 
 abbrev pub after_stands : ℕ → List Stand → ℕ
 after_stands n [] = n

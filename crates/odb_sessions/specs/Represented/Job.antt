@@ -5,7 +5,7 @@ use Rattle.odb_request.specs.Request.{Request}
 use Rattle.odb_service.specs.Session.{refilter}
 use Rattle.odb_sessions.specs.Composed.{all_asked_as, asked_of, first_job, later_job, part_to, resumed_job}
 use Rattle.odb_sessions.specs.Filtered.{Filters, all_parts_again}
-use Rattle.odb_sessions.specs.Held.{Held, Watched}
+use Rattle.odb_sessions.specs.Marked.{MarkedMonitor, Watched}
 use Rattle.odb_sessions.specs.Represented.Under.{filters_in}
 use Rattle.odb_sessions.specs.declared.way.Way.{Way}
 use Rattle.odb_sessions.specs.declared.way.Way.TheVariants as way
@@ -28,7 +28,7 @@ asked_by ws (Some fs) = refilter fs (asked_of ws)
 abbrev pub AreRefiltered : List Watched → List Request → Type 0
 AreRefiltered ws qs = (fs : Filters) × (qs ≡ refilter fs (asked_of ws))
 
-abbrev pub job_in : Db → Held → Way → Job
+abbrev pub job_in : Db → MarkedMonitor → Way → Job
 job_in db x way.First = first_job db x.notation (asked_of x.tables)
 job_in db x way.Asked = later_job x.notation (map (part_to db) x.tables)
 job_in db x (way.Changed u) = later_job x.notation (map (part_to db) (all_asked_as x.tables (refilter (filters_in u) (asked_of x.tables))))

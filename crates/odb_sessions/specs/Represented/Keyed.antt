@@ -4,21 +4,21 @@ use Rattle.std.specs.BTreeMap.{is_at}
 use Rattle.std.specs.Map.{lookup}
 use Rattle.std.specs.Ordering.{nat_cmp}
 use Rattle.odb_atoms.specs.FinMap as finite
-use Rattle.odb_sessions.specs.Held.{Kept, Sessions}
+use Rattle.odb_sessions.specs.Marked.{MarkedSession, Sessions}
 
 -- the key of a number
 abbrev pub key_of : List (ℕ × ℕ) → ℕ → Option ℕ
 key_of index number = lookup (is_at (nat_cmp number)) index
 
 -- the session under a key
-abbrev pub session_under : List (Option Kept) → ℕ → Option Kept
+abbrev pub session_under : List (Option MarkedSession) → ℕ → Option MarkedSession
 session_under slots key = slice_index_or slots key None
 
 -- at each number of the index what lies under its key
-abbrev pub sessions_under : List (ℕ × ℕ) → List (Option Kept) → Sessions
+abbrev pub sessions_under : List (ℕ × ℕ) → List (Option MarkedSession) → Sessions
 sessions_under index slots = finite.map_entries (λ number key. session_under slots key) (finite.from_entries index)
 
-module _ (key_at : ℕ → Option ℕ) (lies : ℕ → Option Kept) where
+module _ (key_at : ℕ → Option ℕ) (lies : ℕ → Option MarkedSession) where
   -- a session lies under the key of each number
   abbrev pub AllLie : Type 0
   AllLie = (q k : ℕ) → key_at q ≡ Some k → IsSome (lies k)
@@ -35,5 +35,5 @@ module _ (key_at : ℕ → Option ℕ) (lies : ℕ → Option Kept) where
   Agree = AllLie × AreApart × AreNumbered
 
 -- the numbers of the index and the sessions of the slab belong together, each to one
-abbrev pub IsKeyed : List (ℕ × ℕ) → List (Option Kept) → Type 0
+abbrev pub IsKeyed : List (ℕ × ℕ) → List (Option MarkedSession) → Type 0
 IsKeyed index slots = Agree (key_of index) (session_under slots)

@@ -3,7 +3,7 @@ use Rattle.std.specs.Prelude.{[]}
 use Rattle.odb_schema.specs.Json.{Data}
 use Rattle.odb_service.specs.Session.{Item, shift, sync}
 use Rattle.odb_sessions.specs.Filtered.{Filters}
-use Rattle.odb_sessions.specs.Represented.Queued.{filters_of}
+use Rattle.odb_sessions.specs.Represented.Item.{filters_of}
 use Rattle.odb_sessions.specs.declared.under.Under.{Under}
 use Rattle.odb_sessions.specs.declared.under.Under.TheVariants.{Asked, Changed}
 

@@ -37,6 +37,6 @@ abbrev pub after_values : DefaultHasher → List Value → DefaultHasher
 after_values h [] = h
 after_values h (v ∷ vs) = after_values (after_value h v) vs
 
--- the number as an identifier, as which it is kept
+-- the number as an identifier, as which it is a tag
 unfoldable pub digest : RandomState → List Value → Uuid
 digest keys vs = uuid_from (sip.finish (after_values (initial_hasher keys) vs))

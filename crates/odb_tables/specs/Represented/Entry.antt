@@ -11,8 +11,8 @@ use Rattle.odb_atoms.specs.Uuid.{Uuid}
 use Rattle.odb_atoms.specs.Value.{Value}
 use Rattle.odb_atoms.specs.declared.atom.Atom.{Atom}
 use Rattle.odb_atoms.proofs.Atoms.{atom_cmp-IsAntisymmetric}
-use Rattle.odb_tables.specs.Kept.{mentions}
-use Rattle.odb_tables.specs.Represented.Kept.{is_in}
+use Rattle.odb_tables.specs.Indexed.{mentions}
+use Rattle.odb_tables.specs.Represented.RowTest.{is_in}
 
 -- the identifier is the element of a set
 abbrev pub element_mentions : Uuid → Atom → Bool

@@ -1,9 +1,9 @@
--- By what rows are kept: the tags of a row. What counts is that no pair is lacking; one too many does no harm, since each row that is found so is tested.
+-- By what an index finds rows: the tags of a row. What counts is that no pair is lacking; one too many does no harm, since each row that is found so is tested.
 use Rattle.std.specs.Prelude.{◌≡◌, Bool, true, false, Option, Some, None}
 use Rattle.odb_atoms.specs.Atom.{Atom, boolean, integer, text, uuid}
 use Rattle.odb_atoms.specs.Row.{Row, cell, declared}
 use Rattle.odb_atoms.specs.Uuid.{Uuid, same_uuid, zero_uuid}
-use Rattle.odb_tables.specs.Kept.{cells_at, mentions}
+use Rattle.odb_tables.specs.Indexed.{cells_at, mentions}
 use Rattle.odb_tables.specs.Represented.Digest.{digest}
 use Rattle.odb_tables.specs.Represented.Pairs.{Pairs, has}
 use Rattle.odb_tables.specs.declared.facet.Facet.{Facet}
@@ -25,7 +25,7 @@ abbrev pub is_tag_now : Facet → Uuid → Option Row → Bool
 is_tag_now f tag None = false
 is_tag_now f tag (Some r) = is_tag f tag r
 
--- the row of the identifier, if there is one, is kept under each of its tags
+-- the row of the identifier, if there is one, stands under each of its tags
 abbrev pub HasTagsNow : Facet → Pairs → Uuid → Option Row → Type 0
 HasTagsNow f s u o = (tag : Uuid) → is_tag_now f tag o ≡ true → has s tag u ≡ true
 

@@ -25,10 +25,10 @@ taken_back r (None, None) = r
 taken_back r (Some p, q) = r
 
 -- a row that was there is replaced or removed
-abbrev pub settled : Option Row → Option Row × Option Row → Option Row
-settled r (None, q) = r
-settled r (Some p, None) = None
-settled r (Some p, Some q) = option_map (λ _. q) r
+abbrev pub replaced : Option Row → Option Row × Option Row → Option Row
+replaced r (None, q) = r
+replaced r (Some p, None) = None
+replaced r (Some p, Some q) = option_map (λ _. q) r
 
 -- the identifier has the row, or none
 abbrev pub with_row_at : Table → Uuid → Option Row → Table

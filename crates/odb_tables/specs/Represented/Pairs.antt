@@ -1,4 +1,4 @@
--- Pairs of a tag and a row's identifier, as which rows are kept under their tags.
+-- Pairs of a tag and a row's identifier, as which an index has rows under their tags.
 use Rattle.std.specs.Prelude.{◌≡◌, Bool, true}
 use Rattle.std.specs.BTreeSet.{BTreeSet, contains}
 use Rattle.std.specs.Ordering.{ordering_then}
@@ -12,7 +12,7 @@ Pairs = BTreeSet (Uuid × Uuid)
 abbrev pub pair_cmp : Uuid × Uuid → Uuid × Uuid → Ordering
 pair_cmp p q = ordering_then (uuid_cmp p.0 q.0) (uuid_cmp p.1 q.1)
 
--- the row is kept under the tag
+-- the row stands under the tag
 abbrev pub has : Pairs → Uuid → Uuid → Bool
 has s tag u = contains pair_cmp s (tag, u)
 

@@ -1,6 +1,6 @@
 //! Cores and requests for what is played. Where memory is refused they are made once more.
 ghost use Rattle.std.specs.Prelude.{IfOk};
-ghost use Rattle.odb_hub.specs.Kept.{IsNew};
+ghost use Rattle.odb_hub.specs.Guarded.{IsNew};
 
 use crate::refusals::scripts::NET;
 use odb_core::Core;

@@ -4,7 +4,7 @@ use crate::refusals::PlayTarget;
 use crate::refusals::made::submission;
 use crate::refusals::scripts::MOMENT;
 use crate::refusals::sent::Sent;
-use crate::requests::note;
+use crate::requests::add_message;
 use odb_core::{Core, EventRefusal, Out, SessionId};
 use odb_hub::Submission;
 use std::alloc::{AllocError, Global};
@@ -102,7 +102,7 @@ impl Play {
             } else {
                 &mut self.sent.second
             };
-            note(text, out)?;
+            add_message(text, out)?;
         }
         Ok(())
     }

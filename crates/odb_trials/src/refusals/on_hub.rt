@@ -1,12 +1,12 @@
 //! Scripts that are played to a hub. What a session is sent while it is held isn't taken out of its mailbox.
 ghost use Rattle.std.specs.Prelude.{◌≡◌};
-ghost use Rattle.odb_hub.specs.Kept.{IsNew};
+ghost use Rattle.odb_hub.specs.Guarded.{IsNew};
 
 use crate::mailboxes::open;
 use crate::refusals::made::submission;
 use crate::refusals::scripts::MOMENT;
 use crate::refusals::sent::Sent;
-use crate::requests::note;
+use crate::requests::add_message;
 use odb_core::{Core, EventRefusal};
 use odb_hub::{Hub, Mailbox, Round, Seat};
 use odb_par::{Open, Workers};
@@ -64,7 +64,7 @@ impl<'a, L: Ledger, R: Threads + Wait + Clock + Sync> TrialHub<'a, L, R> {
             Ok(second) => second,
             Err(refused) => {
                 let Ends { seat, mailbox: _ } = first;
-                self.part(seat);
+                self.leave(seat);
                 return Err(refused);
             }
         };
@@ -178,10 +178,10 @@ impl<'a, L: Ledger, R: Threads + Wait + Clock + Sync> TrialHub<'a, L, R> {
             sent,
         } = players;
         let Ends { seat, mailbox: _ } = first;
-        self.part(seat);
+        self.leave(seat);
         let given = self.round();
         let Ends { seat, mailbox } = second;
-        self.part(seat);
+        self.leave(seat);
         given?;
         let mut sent = sent;
         let mut mailbox = mailbox;
@@ -190,11 +190,11 @@ impl<'a, L: Ledger, R: Threads + Wait + Clock + Sync> TrialHub<'a, L, R> {
     }
 
     /// Ends a session, with the seat that came back where memory is refused.
-    fn part(&self, seat: Seat<L>) {
+    fn leave(&self, seat: Seat<L>) {
         let mut seat = seat;
         for _ in self.rt.forever() {
-            let parted = self.hub.enter(self.rt).part(seat);
-            match parted {
+            let outcome = self.hub.enter(self.rt).leave(seat);
+            match outcome {
                 Ok(()) => return,
                 Err(back) => seat = back,
             }
@@ -207,7 +207,7 @@ impl<'a, L: Ledger, R: Threads + Wait + Clock + Sync> TrialHub<'a, L, R> {
 fn take(mailbox: &mut Mailbox, text: &mut Vec<u8>) -> Result<usize, AllocError> {
     for count in 0..MOST {
         match mailbox.next() {
-            Some(out) => note(text, &out)?,
+            Some(out) => add_message(text, &out)?,
             None => return Ok(count),
         }
     }

@@ -1,7 +1,7 @@
 use Rattle.std.proofs.Common.{rules, ℕ, Bool, not, Option}
 use Rattle.std.proofs.lemmas.Fn.{dedup_same}
 use Rattle.odb_atoms.specs.Row.{Row}
-use Rattle.odb_chain.specs.Represented.Places.{is_between}
+use Rattle.odb_chain.specs.Represented.MarkedVersions.{is_between}
 use Rattle.odb_chain.proofs.history.clean.Goals as goal
 
 pub returns-clause-olds : goal.returns-clause-olds

@@ -1,8 +1,8 @@
 use Rattle.std.proofs.Common.{subst, sym, ap, ◌∙◌}
 use Rattle.odb_chain.proofs.Histories.{label_cleaned}
-use Rattle.odb_chain.specs.Represented.Places.{is_label}
-use Rattle.odb_chain.specs.Kept.{at}
-use Rattle.odb_chain.specs.Represented.Places.{Past}
+use Rattle.odb_chain.specs.Represented.MarkedVersions.{is_label}
+use Rattle.odb_chain.specs.OldRows.{at}
+use Rattle.odb_chain.specs.Represented.MarkedVersions.{Past}
 use Rattle.odb_chain.proofs.Histories.{clean_same, past_cleaned}
 use Rattle.odb_chain.proofs.history.tidy.Goals as goal
 

@@ -5,7 +5,7 @@ use Rattle.odb_atoms.proofs.Lists.{any_gives, both}
 use Rattle.odb_atoms.specs.Represented.Atom.{uuid_of}
 use Rattle.odb_atoms.specs.Uuid.{uuid_cmp}
 use Rattle.odb_tables.specs.Database.{table_at}
-use Rattle.odb_tables.specs.Kept.{refers_at}
+use Rattle.odb_tables.specs.Indexed.{refers_at}
 use Rattle.odb_integrity.specs.Touched.{is_referrer}
 use Rattle.odb_integrity.proofs.Referring.{none_in_table, one_refers}
 use Rattle.odb_integrity.proofs.garbage.is_referred_by.Goals as goal

@@ -5,7 +5,7 @@ use Rattle.std.proofs.lemmas.List.Folds.{list_any_at, list_any_more}
 use Rattle.odb_atoms.proofs.Lists.{any-map}
 use Rattle.odb_atoms.specs.Value.{same_values}
 use Rattle.odb_integrity.specs.Settlement.{has_duplicates, has_twins, index_cells, rows_of}
-use Rattle.odb_tables.specs.Kept.{cells_at}
+use Rattle.odb_tables.specs.Indexed.{cells_at}
 use Rattle.odb_schema.specs.Represented.Names.{names_of}
 use Rattle.odb_schema.specs.Schema.{Column}
 use Rattle.odb_tables.specs.Database.{Table, table_at}

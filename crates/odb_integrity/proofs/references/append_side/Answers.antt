@@ -1,6 +1,6 @@
 use Rattle.std.proofs.Common.{◌≡◌, ◌<◌, length, map, rules, slice_index_or, Some}
 use Rattle.odb_atoms.specs.Represented.Atom.{atom_of}
-use Rattle.odb_integrity.specs.Represented.Side.{atom_at}
+use Rattle.odb_integrity.specs.Represented.PairSide.{atom_at}
 use Rattle.odb_integrity.proofs.Named.{named_more, nothing_added}
 use Rattle.odb_integrity.proofs.references.append_side.Goals as goal
 

@@ -1,6 +1,6 @@
 use Rattle.std.proofs.Common.{◌≡◌, ◌++◌, filter_map, map, take, Some}
 use Rattle.odb_atoms.specs.Represented.Atom.{atom_of}
-use Rattle.odb_integrity.specs.Represented.Side.{atom_at}
+use Rattle.odb_integrity.specs.Represented.PairSide.{atom_at}
 use Rattle.odb_integrity.specs.Settlement.{referent}
 use Rattle.odb_integrity.proofs.references.append_side.Given as goal
 

@@ -6,7 +6,7 @@ use Rattle.std.proofs.lemmas.Result.{on_ok_weaker}
 use Rattle.odb_atoms.specs.Represented.Atom.{uuid_of}
 use Rattle.odb_atoms.specs.Uuid.{uuid_cmp}
 use Rattle.odb_tables.specs.Database.{table_at}
-use Rattle.odb_tables.specs.Kept.{refers_at}
+use Rattle.odb_tables.specs.Indexed.{refers_at}
 use Rattle.odb_integrity.specs.Represented.RowId.{row_id_cmp}
 use Rattle.odb_integrity.proofs.Sets.{any-in_table}
 use Rattle.odb_integrity.proofs.referrers.insert_by.Goals as goal

@@ -6,13 +6,13 @@ use Rattle.serde_json.specs.Written.{compact_text}
 use Rattle.odb_monitor.specs.Job.{Job, updates_of}
 use Rattle.odb_monitor.specs.Represented.Part.{is_silent, part_tokens}
 use Rattle.odb_monitor.proofs.Joined.{none_sent, some_sent}
-use Rattle.odb_request.specs.Represented.Kind.{notation_of}
+use Rattle.odb_request.specs.Represented.Notation.{notation_of}
 use Rattle.odb_monitor.proofs.job.compose.Goals as goal
 
 pub returns-then-not-is_sent : goal.returns-then-not-is_sent
 returns-then-not-is_sent c =
     let i = c.job.inside in
-    let j : Job = record { notation = notation_of i.kind; first = i.first; reply = i.reply; parts = i.parts.items } in
+    let j : Job = record { notation = notation_of i.notation; first = i.first; reply = i.reply; parts = i.parts.items } in
     let shown : c.in_ok-shown.shown ≡ list_any (λ p. not (is_silent j.first p)) j.parts = search rules in
     let sent : (j.reply || c.in_ok-shown.shown) ≡ false = search rules in
     subst (λ (x : Job). None ≡ option_map compact_text (updates_of x)) c.job.view_is (none_sent j c.in_ok-shown.shown shown sent)
@@ -20,7 +20,7 @@ returns-then-not-is_sent c =
 pub returns : goal.returns
 returns c =
     let i = c.job.inside in
-    let j : Job = record { notation = notation_of i.kind; first = i.first; reply = i.reply; parts = i.parts.items } in
+    let j : Job = record { notation = notation_of i.notation; first = i.first; reply = i.reply; parts = i.parts.items } in
     let ts = flat_map (part_tokens j.notation j.first) j.parts in
     let shown : c.in_ok-shown.shown ≡ list_any (λ p. not (is_silent j.first p)) j.parts = search rules in
     let sent : (j.reply || c.in_ok-shown.shown) ≡ true = search rules in

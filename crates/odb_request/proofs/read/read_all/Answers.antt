@@ -4,13 +4,13 @@ use Rattle.serde_json.specs.View.{members_view, view}
 use Rattle.odb_atoms.specs.First.{each}
 use Rattle.odb_schema.specs.Json.{members_list}
 use Rattle.odb_schema.proofs.Eachs.{after, each_more}
-use Rattle.odb_request.specs.Represented.Kind.{notation_of}
+use Rattle.odb_request.specs.Represented.Notation.{notation_of}
 use Rattle.odb_request.specs.Requests.{read_request}
 use Rattle.odb_request.proofs.read.read_all.Goals as goal
 
 pub loop-name-preserved : goal.loop-name-preserved
 loop-name-preserved c =
-    let f = read_request (arc_value c.args.schema.now) (notation_of c.args.kind) in
+    let f = read_request (arc_value c.args.schema.now) (notation_of c.args.notation) in
     let done = c.loop-name.requests.items in
     let rest = members_list (members_view c.next.new.self) in
     rw c.in_ok-push.ensures.items

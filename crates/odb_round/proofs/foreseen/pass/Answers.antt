@@ -3,10 +3,10 @@ use Rattle.odb_schema.specs.Schema.{Schema}
 use Rattle.odb_service.specs.Server.{served_by}
 use Rattle.odb_sessions.specs.Asked.{is_same}
 use Rattle.odb_sessions.specs.Composed.{asked_of}
-use Rattle.odb_round.specs.Foreseen.{Ahead, held_ahead, seen_ahead}
+use Rattle.odb_round.specs.Foreseen.{Ahead, marked_ahead, seen_ahead}
 use Rattle.odb_round.specs.OfSchema.{AreOfSchema}
 use Rattle.odb_round.specs.Jobs.{certainly}
-use Rattle.odb_sessions.specs.Held.{Held, marks_in, watch_of}
+use Rattle.odb_sessions.specs.Marked.{MarkedMonitor, marks_in, watch_of}
 use Rattle.odb_sessions.specs.Tied.{AreLive}
 use Rattle.odb_round.specs.Sending.{due_sending}
 use Rattle.odb_round.proofs.Aheads.{due_found, due_nowhere, leaves_found, leaves_nowhere, live_ahead, same_marks, still_held}
@@ -24,12 +24,12 @@ use Rattle.odb_sessions.specs.Book.{revision_at}
 
 pub returns-in_default-clause-text : goal.returns-in_default-clause-text
 returns-in_default-clause-text c = λ s all kept.
-    let none : position (λ (a : Ahead). is_same c.args.id.now a.held.id) c.args.monitors.now.items ≡ None = search rules in
+    let none : position (λ (a : Ahead). is_same c.args.id.now a.marked.id) c.args.monitors.now.items ≡ None = search rules in
     ap (option_map certainly) (sym (ap (option_map (due_sending (served_by s) (revision_at c.args.wanted.now.chains c.args.wanted.now.recent))) (due_nowhere s c.args.wanted.now.chains.db c.args.id.now c.args.under c.args.monitors.now.items none)))
 
 pub returns-in_default-clause-passed : goal.returns-in_default-clause-passed
 returns-in_default-clause-passed c = λ s.
-    let none : position (λ (a : Ahead). is_same c.args.id.now a.held.id) c.args.monitors.now.items ≡ None = search rules in
+    let none : position (λ (a : Ahead). is_same c.args.id.now a.marked.id) c.args.monitors.now.items ≡ None = search rules in
     sym (leaves_nowhere s c.args.wanted.now.chains.db c.args.id.now c.args.under c.args.monitors.now.items none)
 
 pub update-requires-clause-live : goal.update-requires-clause-live
@@ -39,7 +39,7 @@ update-requires-clause-live c =
     let x : Ahead = c.index.result.now in
     let low : k < length xs = search rules in
     let at : x ≡ slice_index_or xs k x = search rules in
-    subst (λ (y : Ahead). AreLive c.args.wanted.now.chains (marks_in y.held)) (sym at) (live_ahead c.args.wanted.now.chains xs k x low c.requires.live)
+    subst (λ (y : Ahead). AreLive c.args.wanted.now.chains (marks_in y.marked)) (sym at) (live_ahead c.args.wanted.now.chains xs k x low c.requires.live)
 
 pub update-requires-clause-of : goal.update-requires-clause-of
 update-requires-clause-of c =
@@ -49,7 +49,7 @@ update-requires-clause-of c =
     let x : Ahead = c.index.result.now in
     let low : k < length xs = search rules in
     let at : x ≡ slice_index_or xs k x = search rules in
-    subst (λ (y : Ahead). AreOfSchema s (asked_of y.held.tables)) (sym at) (ahead_of s xs k x low c.requires.of)
+    subst (λ (y : Ahead). AreOfSchema s (asked_of y.marked.tables)) (sym at) (ahead_of s xs k x low c.requires.of)
 
 pub returns-clause-text : goal.returns-clause-text
 returns-clause-text c = λ s all kept.
@@ -58,7 +58,7 @@ returns-clause-text c = λ s all kept.
     let xs : List Ahead = c.args.monitors.now.items in
     let k = c.in-Some.place in
     let x : Ahead = c.index.result.now in
-    let some : position (λ (a : Ahead). is_same c.args.id.now a.held.id) xs ≡ Some k = search rules in
+    let some : position (λ (a : Ahead). is_same c.args.id.now a.marked.id) xs ≡ Some k = search rules in
     let at : x ≡ slice_index_or xs k x = search rules in
     c.in_ok-message.ensures.text (served_by s) all kept ∙ ap (option_map certainly) (sym (ap (option_map (due_sending (served_by s) revision)) (due_found s db c.args.id.now c.args.under xs x k some at)))
 
@@ -67,7 +67,7 @@ returns-clause-passed c = λ s.
     let xs : List Ahead = c.args.monitors.now.items in
     let k = c.in-Some.place in
     let x : Ahead = c.index-2.result.now in
-    let some : position (λ (a : Ahead). is_same c.args.id.now a.held.id) xs ≡ Some k = search rules in
+    let some : position (λ (a : Ahead). is_same c.args.id.now a.marked.id) xs ≡ Some k = search rules in
     let at : x ≡ slice_index_or xs k x = search rules in
     sym (leaves_found s c.args.wanted.now.chains.db c.args.id.now c.args.under xs x c.brought.result k some at c.brought.ensures)
 
@@ -78,7 +78,7 @@ returns-clause-live c =
     let x : Ahead = c.index-2.result.now in
     let low : k < length xs = search rules in
     let at : x ≡ slice_index_or xs k x = search rules in
-    subst (AreLive c.args.wanted.now.chains) (sym (same_marks xs k x c.brought.result low (ap (λ (a : Ahead). a.held) c.brought.ensures ∙ ap (λ (a : Ahead). a.held) at))) c.requires.live
+    subst (AreLive c.args.wanted.now.chains) (sym (same_marks xs k x c.brought.result low (ap (λ (a : Ahead). a.marked) c.brought.ensures ∙ ap (λ (a : Ahead). a.marked) at))) c.requires.live
 
 pub returns-clause-of : goal.returns-clause-of
 returns-clause-of c =
@@ -87,16 +87,16 @@ returns-clause-of c =
     let x : Ahead = c.index-2.result.now in
     let low : k < length xs = search rules in
     let at : x ≡ slice_index_or xs k x = search rules in
-    still_of c.args.wanted.now.basis.schema xs k x c.brought.result low (ap (λ (a : Ahead). a.held) c.brought.ensures ∙ ap (λ (a : Ahead). a.held) at) c.requires.of
+    still_of c.args.wanted.now.basis.schema xs k x c.brought.result low (ap (λ (a : Ahead). a.marked) c.brought.ensures ∙ ap (λ (a : Ahead). a.marked) at) c.requires.of
 
-pub returns-clause-held : goal.returns-clause-held
-returns-clause-held c =
+pub returns-clause-marked : goal.returns-clause-marked
+returns-clause-marked c =
     let xs : List Ahead = c.args.monitors.now.items in
     let k = c.in-Some.place in
     let x : Ahead = c.index-2.result.now in
     let low : k < length xs = search rules in
     let at : x ≡ slice_index_or xs k x = search rules in
-    still_held xs k x c.brought.result low (ap (λ (a : Ahead). a.held) c.brought.ensures ∙ ap (λ (a : Ahead). a.held) at)
+    still_held xs k x c.brought.result low (ap (λ (a : Ahead). a.marked) c.brought.ensures ∙ ap (λ (a : Ahead). a.marked) at)
 
 pub returns-in_default-clause-jobs : goal.returns-in_default-clause-jobs
 returns-in_default-clause-jobs c = keeps_itself c.args.wanted.now.jobs
@@ -113,14 +113,14 @@ returns-clause-marks c = λ s.
     let xs : List Ahead = c.args.monitors.now.items in
     let k = c.in-Some.place in
     let x : Ahead = c.index.result.now in
-    let some : position (λ (a : Ahead). is_same c.args.id.now a.held.id) xs ≡ Some k = search rules in
+    let some : position (λ (a : Ahead). is_same c.args.id.now a.marked.id) xs ≡ Some k = search rules in
     let low : k < length xs = search rules in
     let at : x ≡ slice_index_or xs k x = search rules in
-    let hs : List Held = held_ahead xs in
+    let hs : List MarkedMonitor = marked_ahead xs in
     let fs = filters_in c.args.under in
-    served_so c.args.wanted.now.likenesses c.update.new.wanted.likenesses (λ h. h ≡ x.held) (IsDueTo (due (served_by s) db (item_in c.args.id.now c.args.under) (map (seen_ahead db) xs)) hs) (place_told c.in_ok-message.message)
+    served_so c.args.wanted.now.likenesses c.update.new.wanted.likenesses (λ h. h ≡ x.marked) (IsDueTo (due (served_by s) db (item_in c.args.id.now c.args.under) (map (seen_ahead db) xs)) hs) (place_told c.in_ok-message.message)
     (λ h is. (
       one_ahead xs k x h low at is,
-      subst (λ o. IfSome o (λ d. watch_due d ≡ Some (watch_of h))) (sym (due_found s db c.args.id.now c.args.under xs x k some at)) (update_to (served_by s) db (refilter fs (watch_of x.held).requests) x h is),
+      subst (λ o. IfSome o (λ d. watch_due d ≡ Some (watch_of h))) (sym (due_found s db c.args.id.now c.args.under xs x k some at)) (update_to (served_by s) db (refilter fs (watch_of x.marked).requests) x h is),
     ))
     c.in_ok-message.ensures.marks

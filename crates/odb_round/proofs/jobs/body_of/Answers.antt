@@ -16,9 +16,9 @@ returns-in-Some-Composed c =
     let m : Envelope = c.in-Some-Composed.envelope in
     let bodies = c.args.bodies.now in
     let is : c.args.coming.now ≡ Some (Composed m) = search rules in
-    IfOk-weaker c.body_at.result (λ body. bytes_in body ≡ option_and_then bytes_in (slice_get bodies m.job))
+    IfOk-weaker c.body_at.result (λ body. bytes_in body ≡ option_and_then bytes_in (slice_get bodies m.place))
     (λ body. (js : List Job) → map bytes_in bodies ≡ map composition js → text_coming c.args.coming.now (bytes_in body) ≡ text_planned js c.args.coming.now)
     (λ body found js same.
     subst (λ (coming : Option Coming). text_coming coming (bytes_in body) ≡ text_planned js coming) (sym is)
-    (ap (λ b. text_around m.before.items b m.after.items) (found ∙ body_composed bytes_in bodies js m.job same)))
+    (ap (λ b. text_around m.before.items b m.after.items) (found ∙ body_composed bytes_in bodies js m.place same)))
     c.body_at.ensures

@@ -13,7 +13,7 @@ returns-in_default-clause-text c = λ all job e.
 
 pub returns-clause-text : goal.returns-clause-text
 returns-clause-text c = λ all job e.
-    let place = c.in-Some.job in
+    let place = c.in-Some.at in
     let some : c.args.place ≡ Some place = search rules in
     some_told all c.in_ok-around_updates.field-0 place (notified_text (uuid_of c.args.number) c.args.monitor.now) job c.in_ok-around_updates.ensures (updates_of job) refl
     (ap (option_map (slice_get all)) (sym some) ∙ e)
@@ -25,5 +25,5 @@ returns-in_default-clause-place c =
 
 pub returns-clause-place : goal.returns-clause-place
 returns-clause-place c =
-    let some : c.args.place ≡ Some c.in-Some.job = search rules in
+    let some : c.args.place ≡ Some c.in-Some.at = search rules in
     ap (λ n. Some n) c.in_ok-around_updates.ensures.0 ∙ sym some

@@ -3,7 +3,7 @@ use Rattle.std.proofs.lemmas.Result.{IfOk-weaker}
 use Rattle.odb_request.specs.Request.{Request}
 use Rattle.odb_service.specs.Session.{refilter}
 use Rattle.odb_round.specs.Jobs.{certainly}
-use Rattle.odb_sessions.specs.Held.{Held, monitor_of, watch_of}
+use Rattle.odb_sessions.specs.Marked.{MarkedMonitor, monitor_of, watch_of}
 use Rattle.odb_sessions.specs.Represented.Under.{filters_in}
 use Rattle.odb_sessions.specs.declared.under.Under.{Under}
 use Rattle.odb_sessions.specs.declared.under.Under.TheVariants as under
@@ -14,7 +14,7 @@ use Rattle.odb_sessions.specs.Book.{revision_at}
 
 pub returns-in-Asked-clause-text : goal.returns-in-Asked-clause-text
 returns-in-Asked-clause-text c =
-    let x : Held = c.args.monitor.now in
+    let x : MarkedMonitor = c.args.monitor.now in
     let qs : List Request = (watch_of x).requests in
     let is : c.args.under ≡ under.Asked = search rules in
     IfOk-weaker c.update_asked.result _ _

@@ -5,7 +5,7 @@ use Rattle.odb_service.specs.Session.{refilter}
 use Rattle.odb_sessions.specs.Composed.{asked_of, later_job}
 use Rattle.odb_sessions.specs.Filtered.{all_parts_again}
 use Rattle.odb_round.specs.Jobs.{certainly}
-use Rattle.odb_sessions.specs.Held.{Held}
+use Rattle.odb_sessions.specs.Marked.{MarkedMonitor}
 use Rattle.odb_sessions.specs.Represented.Under.{filters_in}
 use Rattle.odb_round.specs.Sending.{notifying, sent_with}
 use Rattle.odb_round.proofs.Updates.{sent_again}
@@ -17,7 +17,7 @@ pub returns-clause-text : goal.returns-clause-text
 returns-clause-text c =
     let db = c.args.wanted.now.chains.db in
     let revision = revision_at c.args.wanted.now.chains c.args.wanted.now.recent in
-    let x : Held = c.args.monitor.now in
+    let x : MarkedMonitor = c.args.monitor.now in
     let fs = filters_in c.args.under in
     let gs = filters_in c.args.told in
     let job : Job = later_job x.notation (all_parts_again db gs x.tables (refilter fs (asked_of x.tables))) in

@@ -4,7 +4,7 @@ use Rattle.odb_chain.specs.Chains.{Chains}
 use Rattle.odb_monitor.specs.Job.{Job, updates_of}
 use Rattle.odb_sessions.specs.Composed.{AreNow, owed_job}
 use Rattle.odb_round.specs.Jobs.{certainly}
-use Rattle.odb_sessions.specs.Held.{Held, marks_in}
+use Rattle.odb_sessions.specs.Marked.{MarkedMonitor, marks_in}
 use Rattle.odb_sessions.specs.Tied.{AreLive}
 use Rattle.odb_round.proofs.Places.{keeps_itself}
 use Rattle.odb_round.proofs.Quiet.{quiet}
@@ -19,7 +19,7 @@ is_told-requires c = subst (λ (k : Chains). AreLive k (marks_in c.args.monitor.
 
 pub returns-then-is_told-clause-text : goal.returns-then-is_told-clause-text
 returns-then-is_told-clause-text c = λ h all kept.
-    let x : Held = c.args.monitor.now in
+    let x : MarkedMonitor = c.args.monitor.now in
     let now : c.is_told.result ≡ true = search rules in
     ap (option_map certainly) (quiet h (revision_at c.args.wanted.now.chains c.args.wanted.now.recent) x (subst (λ (k : Chains). AreNow k.db x.tables) c.chains.ensures (c.is_told.ensures now)))
 
@@ -30,7 +30,7 @@ pub returns-clause-text : goal.returns-clause-text
 returns-clause-text c =
     let db = c.args.wanted.now.chains.db in
     let revision = revision_at c.args.wanted.now.chains c.args.wanted.now.recent in
-    let x : Held = c.args.monitor.now in
+    let x : MarkedMonitor = c.args.monitor.now in
     let job : Job = owed_job db x in
     IfOk-weaker c.notification.result _ _
     (λ message told. λ h all kept. told all job (c.in_ok-place.ensures.place all kept)

@@ -4,7 +4,7 @@ use Rattle.odb_monitor.specs.Job.{Job, updates_of}
 use Rattle.odb_service.specs.Session.{refilter}
 use Rattle.odb_sessions.specs.Composed.{all_asked_as, asked_of, later_job, part_to}
 use Rattle.odb_round.specs.Jobs.{certainly}
-use Rattle.odb_sessions.specs.Held.{Held}
+use Rattle.odb_sessions.specs.Marked.{MarkedMonitor}
 use Rattle.odb_sessions.specs.Represented.Under.{filters_in}
 use Rattle.odb_round.specs.Sending.{notifying, sent_with}
 use Rattle.odb_round.proofs.Updates.{sent_under}
@@ -16,7 +16,7 @@ pub returns-clause-text : goal.returns-clause-text
 returns-clause-text c =
     let db = c.args.wanted.now.chains.db in
     let revision = revision_at c.args.wanted.now.chains c.args.wanted.now.recent in
-    let x : Held = c.args.monitor.now in
+    let x : MarkedMonitor = c.args.monitor.now in
     let fs = filters_in c.args.under in
     let job : Job = later_job x.notation (map (part_to db) (all_asked_as x.tables (refilter fs (asked_of x.tables)))) in
     IfOk-weaker c.notification.result _ _

@@ -10,7 +10,7 @@ use Rattle.odb_sessions.specs.FirstTexts.{AreFirstTexts, IsOfNow}
 use Rattle.odb_tables.specs.Database.{Db}
 use Rattle.odb_round.specs.Foreseen.{Foreseen}
 use Rattle.odb_sessions.specs.Alike.{Likeness}
-use Rattle.odb_sessions.specs.Held.{Sessions, all_seen}
+use Rattle.odb_sessions.specs.Marked.{Sessions, all_seen}
 use Rattle.odb_round.specs.Jobs.{AreByLikenesses, AreEachOnce, AreMadeOf, Round}
 use Rattle.odb_round.specs.OfSchema.{AreSessionsOf}
 use Rattle.odb_round.specs.Represented.Taking.{pending_by}

@@ -21,7 +21,7 @@ as_sent n t = option_map (λ t. let p : ℕ × List ℕ = (n, t) in p) t
 pub returns-clause-book : goal.returns-clause-book
 returns-clause-book c = λ s.
     let b : Book = c.args.sessions.now in
-    c.forget_if_resting.ensures ∙ c.carry_out-queued.ensures.book s ∙ ap (λ m. record b { sessions = m }) (book_ready s (revision_in b) b.sessions c.args.planned.session (ready_of c.args.planned) (c.requires s))
+    c.carry_out-queued.ensures.book s ∙ ap (λ m. record b { sessions = m }) (book_ready s (revision_in b) b.sessions c.args.planned.session (ready_of c.args.planned) (c.requires s))
 
 pub returns-clause-out : goal.returns-clause-out
 returns-clause-out c = λ s.

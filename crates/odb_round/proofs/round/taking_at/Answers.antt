@@ -2,7 +2,7 @@ use Rattle.std.proofs.Common.{rules, ◌≡◌, Option, Some, None, option_map, 
 use Rattle.odb_atoms.specs.FinMap as finite
 use Rattle.odb_service.specs.Server.{served_by}
 use Rattle.odb_round.specs.Foreseen.{last_used}
-use Rattle.odb_sessions.specs.Held.{Kept, Sessions, seen}
+use Rattle.odb_sessions.specs.Marked.{MarkedSession, Sessions, seen}
 use Rattle.odb_round.specs.Jobs.{IsByLikeness, IsOfJob}
 use Rattle.odb_round.specs.Planned.{plan}
 use Rattle.odb_round.specs.Represented.Taking.{ready_by, text_planned}
@@ -19,7 +19,7 @@ use Rattle.odb_sessions.specs.Book.{revision_at}
 pub returns-in_default-clause-ready : goal.returns-in_default-clause-ready
 returns-in_default-clause-ready c = λ s all kept.
     let none : finite.get c.args.sessions.now c.args.session ≡ None = search rules in
-    subst (λ (o : Option Kept). IsReadyFor s (revision_at c.args.planner.now.chains c.args.planner.now.recent) (option_map seen o) (ready_by all c.none.result.taking)) (sym none) (c.none.ensures.coming all)
+    subst (λ (o : Option MarkedSession). IsReadyFor s (revision_at c.args.planner.now.chains c.args.planner.now.recent) (option_map seen o) (ready_by all c.none.result.taking)) (sym none) (c.none.ensures.coming all)
 
 pub returns-in_default-clause-jobs : goal.returns-in_default-clause-jobs
 returns-in_default-clause-jobs c = keeps_itself c.args.planner.now.jobs
@@ -42,7 +42,7 @@ taking_from-requires-clause-known c =
 pub returns-clause-ready : goal.returns-clause-ready
 returns-clause-ready c = λ s all kept.
     let revision = revision_at c.args.planner.now.chains c.args.planner.now.recent in
-    let x : Kept = c.in-Some.of.now in
+    let x : MarkedSession = c.in-Some.of.now in
     let there : finite.get c.args.sessions.now c.args.session ≡ Some x = search rules in
     let t = c.in_ok-taking.taking in
     let planned : IsReadyFor s revision (Some (seen x)) (ready_by all t) =
@@ -51,7 +51,7 @@ returns-clause-ready c = λ s all kept.
     ∙ ap (option_map (λ (y : Sending). y.text)) (c.in_ok-taking.ensures.text s all kept)
     ∙ texts_due s revision (plan (served_by s) revision.db (seen x)).out)
     in
-    subst (λ (o : Option Kept). IsReadyFor s revision (option_map seen o) (ready_by all t)) (sym there) planned
+    subst (λ (o : Option MarkedSession). IsReadyFor s revision (option_map seen o) (ready_by all t)) (sym there) planned
 
 pub returns-in_default-clause-made : goal.returns-in_default-clause-made
 returns-in_default-clause-made c = λ s all kept.
@@ -61,11 +61,11 @@ returns-in_default-clause-made c = λ s all kept.
 pub returns-clause-made : goal.returns-clause-made
 returns-clause-made c = λ s all kept.
     let revision = revision_at c.args.planner.now.chains c.args.planner.now.recent in
-    let x : Kept = c.in-Some.of.now in
+    let x : MarkedSession = c.in-Some.of.now in
     let there : finite.get c.args.sessions.now c.args.session ≡ Some x = search rules in
     let t = c.in_ok-taking.taking in
     let made : IsOfJob s revision all (Some (seen x)) (text_planned all t.coming) = made_of s revision all (seen x) t.coming (last_used t.items (seen x).queue) (c.in_ok-taking.ensures.text s all kept) in
-    subst (λ (o : Option Kept). IsOfJob s revision all (option_map seen o) (text_planned all t.coming)) (sym there) made
+    subst (λ (o : Option MarkedSession). IsOfJob s revision all (option_map seen o) (text_planned all t.coming)) (sym there) made
 
 pub returns-clause-jobs : goal.returns-clause-jobs
 returns-clause-jobs c = c.taking_from.ensures.jobs
@@ -80,10 +80,10 @@ returns-in_default-clause-likenesses c = keeps_itself c.args.planner.now.likenes
 pub returns-clause-marks : goal.returns-clause-marks
 returns-clause-marks c = λ s all ls kept.
     let revision = revision_at c.args.planner.now.chains c.args.planner.now.recent in
-    let x : Kept = c.in-Some.of.now in
+    let x : MarkedSession = c.in-Some.of.now in
     let there : finite.get c.args.sessions.now c.args.session ≡ Some x = search rules in
     let t = c.in_ok-taking.taking in
-    subst (λ (o : Option Kept). IsByLikeness s revision all ls o (text_planned all t.coming)) (sym there)
+    subst (λ (o : Option MarkedSession). IsByLikeness s revision all ls o (text_planned all t.coming)) (sym there)
     (by_likeness s revision x all c.args.planner.now.likenesses c.taking_from.new.planner.likenesses ls t.coming (c.in_ok-taking.ensures.marks s) kept)
 
 pub returns-clause-likenesses : goal.returns-clause-likenesses

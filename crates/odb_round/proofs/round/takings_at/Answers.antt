@@ -8,7 +8,7 @@ use Rattle.odb_recent.specs.Recent.{Recent}
 use Rattle.odb_schema.specs.Schema.{Schema}
 use Rattle.odb_service.specs.Session.{Revision, Session}
 use Rattle.odb_sessions.specs.Book.{Book, book_with, revision_at}
-use Rattle.odb_sessions.specs.Held.{Sessions, all_seen, seen}
+use Rattle.odb_sessions.specs.Marked.{Sessions, all_seen, seen}
 use Rattle.odb_round.specs.Jobs.{AreByLikenesses, AreMadeOf, IsByLikeness, IsOfJob, Keeps}
 use Rattle.odb_round.specs.OfSchema.{AreSessionsOf}
 use Rattle.odb_round.specs.Represented.Taking.{pending_by, ready_by, text_planned}

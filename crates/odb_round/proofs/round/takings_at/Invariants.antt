@@ -4,7 +4,7 @@ use Rattle.odb_monitor.specs.Job.{Job}
 use Rattle.odb_schema.specs.Schema.{Schema}
 use Rattle.odb_sessions.specs.Alike.{Likeness}
 use Rattle.odb_sessions.specs.Book.{book_with, revision_at}
-use Rattle.odb_sessions.specs.Held.{all_seen}
+use Rattle.odb_sessions.specs.Marked.{all_seen}
 use Rattle.odb_round.specs.Jobs.{AreByLikenesses, AreMadeOf, Keeps}
 use Rattle.odb_round.specs.Represented.Taking.{pending_by}
 use Rattle.odb_round.specs.Taken.{AreReady}

@@ -3,11 +3,11 @@ use Rattle.std.proofs.lemmas.List.{drop_more}
 use Rattle.odb_chain.specs.Chains.{Chains}
 use Rattle.odb_service.specs.Server.{served_by}
 use Rattle.odb_service.specs.Session.{Monitor, Revision, leaves}
-use Rattle.odb_sessions.specs.Held.{Held, marks_due}
+use Rattle.odb_sessions.specs.Marked.{MarkedMonitor, marks_due}
 use Rattle.odb_round.specs.OfSchema.{IsItemOf}
-use Rattle.odb_round.specs.Planned.{Due, Plan, due, plan_rest}
+use Rattle.odb_round.specs.Planned.{Due, Plan, due, plan_monitors}
 use Rattle.odb_round.specs.Represented.Sending.{sending_under}
-use Rattle.odb_sessions.specs.Represented.Queued.{queued_of}
+use Rattle.odb_sessions.specs.Represented.Item.{marked_item_of}
 use Rattle.odb_round.specs.Represented.Taking.{coming_sending}
 use Rattle.odb_sessions.specs.Tied.{AreLive}
 use Rattle.odb_sessions.specs.declared.item.Item.{Item}
@@ -20,7 +20,7 @@ use Rattle.odb_tables.specs.Database.{Db}
 use Rattle.odb_sessions.specs.Book.{revision_at}
 use Rattle.odb_sessions.specs.Alike.{Likeness}
 use Rattle.odb_round.specs.Represented.Served.{IsServed, place_coming}
-use Rattle.odb_round.specs.ByMarks.{IsDueTo, held_due}
+use Rattle.odb_round.specs.ByMarks.{IsDueTo, monitors_due}
 use Rattle.odb_round.proofs.Served.{all_due, one_of_all, served_beside, served_in, served_on}
 use Rattle.odb_round.specs.Known.{Basis}
 
@@ -32,7 +32,7 @@ loop-place-init c = record {
   recent = refl;
   jobs = keeps_itself c.args.planner.now.jobs;
   likenesses = keeps_itself c.args.planner.now.likenesses;
-  held = refl;
+  marked = refl;
   rest = λ s. none_used (plan_at s c.args.planner.now.chains.db c.args.items.now.items c.args.planner.now.monitors);
 }
 
@@ -44,8 +44,8 @@ give-requires-clause-live c =
     let x : Item = c.index.result.now in
     let low : i < length xs = search rules in
     let at : x ≡ slice_index_or xs i x = search rules in
-    let live : AreLive k (flat_map marks_due (map queued_of xs)) = subst (λ (n : Chains). AreLive n (flat_map marks_due (map queued_of xs))) (sym c.loop-place.invariant.chains) c.requires.live in
-    subst (λ (y : Item). AreLive k (marks_due (queued_of y))) (sym at) (live_due k xs i x low live)
+    let live : AreLive k (flat_map marks_due (map marked_item_of xs)) = subst (λ (n : Chains). AreLive n (flat_map marks_due (map marked_item_of xs))) (sym c.loop-place.invariant.chains) c.requires.live in
+    subst (λ (y : Item). AreLive k (marks_due (marked_item_of y))) (sym at) (live_due k xs i x low live)
 
 pub give-requires-clause-of : goal.give-requires-clause-of
 give-requires-clause-of c =
@@ -76,7 +76,7 @@ loop-place-preserved c =
       recent = c.give.ensures.recent ∙ c.loop-place.invariant.recent;
       jobs = keeps_on c.args.planner.now.jobs c.loop-place.planner.jobs c.give.new.self.jobs c.loop-place.invariant.jobs c.give.ensures.jobs;
       likenesses = keeps_on c.args.planner.now.likenesses c.loop-place.planner.likenesses c.give.new.self.likenesses c.loop-place.invariant.likenesses (c.in_ok-coming.ensures.marks c.args.planner.now.basis.schema).0;
-      held = c.give.ensures.held ∙ c.loop-place.invariant.held;
+      marked = c.give.ensures.marked ∙ c.loop-place.invariant.marked;
       rest = λ s. c.loop-place.invariant.rest s
           ∙ goes_on s db xs i x step ms c.give.new.self.monitors
           (ap (λ (d : Db). is_some (due (served_by s) d (seen_item x) ms)) (sym same) ∙ sym (c.in_ok-coming.ensures.comes s) ∙ none)
@@ -147,8 +147,8 @@ returns-clause-monitors c = λ s.
     let past : length xs ≤ i = search rules in
     let within : i ≤ length xs = c.loop-place.invariant.within in
     let same : c.loop-place.planner.chains.db ≡ db = ap (λ (k : Chains). k.db) c.loop-place.invariant.chains in
-    c.in_ok-rest.ensures.monitors (served_by s)
-    ∙ ap (λ (d : Db). (plan_rest (served_by s) d ms).monitors) same
+    c.in_ok-due.ensures.monitors (served_by s)
+    ∙ ap (λ (d : Db). (plan_monitors (served_by s) d ms).monitors) same
     ∙ sym (ap (λ (p : Plan). p.monitors) (c.loop-place.invariant.rest s ∙ at_end s db xs i i ms past within (omega (arith, past, within))))
 
 pub returns-clause-text : goal.returns-clause-text
@@ -160,8 +160,8 @@ returns-clause-text c = λ s all kept.
     let past : length xs ≤ i = search rules in
     let within : i ≤ length xs = c.loop-place.invariant.within in
     c.composed.ensures.text all _
-    ∙ told_sending (sending_under all) c.in_ok-rest.rest.message _ (c.in_ok-rest.ensures.text (served_by s) all kept)
-    ∙ (λ j. let k : Chains = c.loop-place.invariant.chains j in option_map (due_sending (served_by s) (revision_at k (c.loop-place.invariant.recent j))) (plan_rest (served_by s) k.db ms).out)
+    ∙ told_sending (sending_under all) c.in_ok-due.due.message _ (c.in_ok-due.ensures.text (served_by s) all kept)
+    ∙ (λ j. let k : Chains = c.loop-place.invariant.chains j in option_map (due_sending (served_by s) (revision_at k (c.loop-place.invariant.recent j))) (plan_monitors (served_by s) k.db ms).out)
     ∙ sym (ap (λ (p : Plan). option_map (due_sending (served_by s) revision) p.out) (c.loop-place.invariant.rest s ∙ at_end s revision.db xs i i ms past within (omega (arith, past, within))))
 
 pub returns-then-is_some-clause-jobs : goal.returns-then-is_some-clause-jobs
@@ -170,17 +170,17 @@ returns-then-is_some-clause-jobs c = keeps_on c.args.planner.now.jobs c.loop-pla
 pub returns-in_err-coming-clause-jobs : goal.returns-in_err-coming-clause-jobs
 returns-in_err-coming-clause-jobs c = keeps_on c.args.planner.now.jobs c.loop-place.planner.jobs c.give.new.self.jobs c.loop-place.invariant.jobs c.give.ensures.jobs
 
-pub returns-in_err-rest-clause-jobs : goal.returns-in_err-rest-clause-jobs
-returns-in_err-rest-clause-jobs c = keeps_on c.args.planner.now.jobs c.loop-place.planner.jobs c.rest.new.self.jobs c.loop-place.invariant.jobs c.rest.ensures.jobs
+pub returns-in_err-due-clause-jobs : goal.returns-in_err-due-clause-jobs
+returns-in_err-due-clause-jobs c = keeps_on c.args.planner.now.jobs c.loop-place.planner.jobs c.due.new.self.jobs c.loop-place.invariant.jobs c.due.ensures.jobs
 
 pub returns-clause-jobs : goal.returns-clause-jobs
-returns-clause-jobs c = keeps_on c.args.planner.now.jobs c.loop-place.planner.jobs c.rest.new.self.jobs c.loop-place.invariant.jobs c.rest.ensures.jobs
+returns-clause-jobs c = keeps_on c.args.planner.now.jobs c.loop-place.planner.jobs c.due.new.self.jobs c.loop-place.invariant.jobs c.due.ensures.jobs
 
 pub returns-then-is_some-clause-marks : goal.returns-then-is_some-clause-marks
 returns-then-is_some-clause-marks c = λ s.
     let db : Db = c.args.planner.now.chains.db in
     let ms : List Monitor = c.loop-place.planner.monitors in
-    let hs : List Held = c.args.planner.now.held in
+    let hs : List MarkedMonitor = c.args.planner.now.marked in
     let xs : List Item = c.args.items.now.items in
     let i = c.loop-place.place in
     let x : Item = c.index.result.now in
@@ -198,27 +198,27 @@ returns-then-is_some-clause-marks c = λ s.
     let old : List Likeness = c.loop-place.planner.likenesses in
     let new : List Likeness = c.give.new.self.likenesses in
     let place = place_coming c.in_ok-coming.coming in
-    let given : IsServed old new (IsDueTo its (hs ++ held_due (queued_of x))) place = subst (λ (gs : List Held). IsServed old new (IsDueTo its (gs ++ held_due (queued_of x))) place) c.loop-place.invariant.held (c.in_ok-coming.ensures.marks s) in
+    let given : IsServed old new (IsDueTo its (hs ++ monitors_due (marked_item_of x))) place = subst (λ (gs : List MarkedMonitor). IsServed old new (IsDueTo its (gs ++ monitors_due (marked_item_of x))) place) c.loop-place.invariant.marked (c.in_ok-coming.ensures.marks s) in
     served_on c.args.planner.now.likenesses old new (IsDueTo (plan_at s db xs c.args.planner.now.monitors).out (hs ++ all_due xs)) place c.loop-place.invariant.likenesses
-    (served_in old new its (plan_at s db xs c.args.planner.now.monitors).out (hs ++ held_due (queued_of x)) (hs ++ all_due xs) place out (λ h is. one_of_all hs xs i x h low at is) given)
+    (served_in old new its (plan_at s db xs c.args.planner.now.monitors).out (hs ++ monitors_due (marked_item_of x)) (hs ++ all_due xs) place out (λ h is. one_of_all hs xs i x h low at is) given)
 
 pub returns-clause-marks : goal.returns-clause-marks
 returns-clause-marks c = λ s.
     let db : Db = c.args.planner.now.chains.db in
     let ms : List Monitor = c.loop-place.planner.monitors in
-    let hs : List Held = c.args.planner.now.held in
+    let hs : List MarkedMonitor = c.args.planner.now.marked in
     let xs : List Item = c.args.items.now.items in
     let i = c.loop-place.place in
     let past : length xs ≤ i = search rules in
     let within : i ≤ length xs = c.loop-place.invariant.within in
-    let its : Option Due = (plan_rest (served_by s) c.loop-place.planner.chains.db ms).out in
+    let its : Option Due = (plan_monitors (served_by s) c.loop-place.planner.chains.db ms).out in
     let out : its ≡ (plan_at s db xs c.args.planner.now.monitors).out =
-    ap (λ (k : Chains). (plan_rest (served_by s) k.db ms).out) c.loop-place.invariant.chains
+    ap (λ (k : Chains). (plan_monitors (served_by s) k.db ms).out) c.loop-place.invariant.chains
     ∙ sym (ap (λ (p : Plan). p.out) (c.loop-place.invariant.rest s ∙ at_end s db xs i i ms past within (omega (arith, past, within))))
     in
     let old : List Likeness = c.loop-place.planner.likenesses in
-    let new : List Likeness = c.rest.new.self.likenesses in
+    let new : List Likeness = c.due.new.self.likenesses in
     let place = place_coming c.composed.result in
-    let given : IsServed old new (IsDueTo its hs) place = subst (λ (gs : List Held). IsServed old new (IsDueTo its gs) place) c.loop-place.invariant.held (subst (IsServed old new (IsDueTo its c.loop-place.planner.held)) (sym c.composed.ensures.place) (c.in_ok-rest.ensures.marks (served_by s))) in
+    let given : IsServed old new (IsDueTo its hs) place = subst (λ (gs : List MarkedMonitor). IsServed old new (IsDueTo its gs) place) c.loop-place.invariant.marked (subst (IsServed old new (IsDueTo its c.loop-place.planner.marked)) (sym c.composed.ensures.place) (c.in_ok-due.ensures.marks (served_by s))) in
     served_on c.args.planner.now.likenesses old new (IsDueTo (plan_at s db xs c.args.planner.now.monitors).out (hs ++ all_due xs)) place c.loop-place.invariant.likenesses
     (served_beside old new its (plan_at s db xs c.args.planner.now.monitors).out hs (all_due xs) place out given)

@@ -12,7 +12,7 @@ invariant-loop-place l = record {
   recent : l.planner.recent ≡ l.initial.planner.recent;
   jobs : Keeps l.initial.planner.jobs l.planner.jobs;
   likenesses : Keeps l.initial.planner.likenesses l.planner.likenesses;
-  held : l.planner.held ≡ l.initial.planner.held;
+  marked : l.planner.marked ≡ l.initial.planner.marked;
   rest : (s : Schema) → plan_at s l.initial.planner.chains.db l.items.items l.initial.planner.monitors
       ≡ after_items l.place (plan_at s l.initial.planner.chains.db (drop l.place l.items.items) l.planner.monitors);
 }

@@ -4,7 +4,7 @@ use Rattle.odb_chain.specs.Chains.{Chains}
 use Rattle.odb_service.specs.Server.{served_by}
 use Rattle.odb_service.specs.Session.{Monitor, brought}
 use Rattle.odb_sessions.specs.Carried.{IsReady}
-use Rattle.odb_sessions.specs.Held.{Held, monitor_of}
+use Rattle.odb_sessions.specs.Marked.{MarkedMonitor, monitor_of}
 use Rattle.odb_sessions.proofs.Carried.{carried_on, flat, moved_one, nothing_carried, ready_one, ready_then}
 use Rattle.odb_sessions.proofs.Firsts.{at_seen, brought_all, one_more_brought, set_seen}
 use Rattle.odb_sessions.proofs.applying.bring_first.Goals as goal
@@ -19,9 +19,9 @@ loop-place-init c = record {
 
 pub bring-requires-clause-has : goal.bring-requires-clause-has
 bring-requires-clause-has c =
-    let xs : List Held = c.loop-place.monitors.items in
+    let xs : List MarkedMonitor = c.loop-place.monitors.items in
     let n = c.loop-place.place in
-    let x : Held = c.index_mut.result.now in
+    let x : MarkedMonitor = c.index_mut.result.now in
     let low : n < length xs = search rules in
     let at : x ≡ slice_index_or xs n x = search rules in
     let ready : IsReady c.loop-place.past (flat xs) = ready_then c.args.past.now c.loop-place.past (flat c.args.monitors.now.items) (flat xs) c.requires c.loop-place.invariant.carried in
@@ -35,14 +35,14 @@ loop-place-preserved c =
     let old = c.loop-place in
     let k : Chains = old.past in
     let new : Chains = c.bring.new.past in
-    let xs : List Held = old.monitors.items in
+    let xs : List MarkedMonitor = old.monitors.items in
     let n = old.place in
-    let x : Held = c.index_mut.result.now in
-    let y : Held = c.bring.new.self in
+    let x : MarkedMonitor = c.index_mut.result.now in
+    let y : MarkedMonitor = c.bring.new.self in
     let low : n < length xs = search rules in
     let at : x ≡ slice_index_or xs n x = search rules in
     let first : Chains = c.args.past.now in
-    let all : List Held = c.args.monitors.now.items in
+    let all : List MarkedMonitor = c.args.monitors.now.items in
     let ready : IsReady k (flat xs) = ready_then first k (flat all) (flat xs) c.requires old.invariant.carried in
     record {
       few = old.invariant.few;
@@ -58,7 +58,7 @@ loop-place-preserved c =
 pub returns-clause-monitors : goal.returns-clause-monitors
 returns-clause-monitors c = λ s.
     let old = c.loop-place in
-    let all : List Held = c.args.monitors.now.items in
+    let all : List MarkedMonitor = c.args.monitors.now.items in
     let long : length (map monitor_of all) ≡ length all = length-map all monitor_of in
     let stop : c.min-all.result ≡ min c.args.count (length all) = search rules in
     let past : c.min-all.result ≤ old.place = search rules in

@@ -3,7 +3,7 @@ use Rattle.std.specs.Prelude.{vec_capacity, vec_len}
 use Rattle.odb_schema.specs.Schema.{Schema}
 use Rattle.odb_service.specs.Server.{served_by}
 use Rattle.odb_sessions.specs.Carried.{Carries, first_brought}
-use Rattle.odb_sessions.specs.Held.{monitor_of}
+use Rattle.odb_sessions.specs.Marked.{monitor_of}
 use Rattle.odb_sessions.proofs.Carried.{flat}
 use Rattle.odb_sessions.proofs.applying.bring_first.Given as goal
 

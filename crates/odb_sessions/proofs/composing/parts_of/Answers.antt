@@ -1,7 +1,7 @@
 use Rattle.std.proofs.Common.{rules, ◌≡◌, ◌++◌, ◌<◌, List, [], ◌∷◌, length, slice_index_or, subst, sym, ◌∙◌}
 use Rattle.odb_monitor.specs.Job.{Part}
 use Rattle.odb_sessions.specs.Composed.{IsKnown, part_in}
-use Rattle.odb_sessions.specs.Held.{Watched}
+use Rattle.odb_sessions.specs.Marked.{Watched}
 use Rattle.odb_sessions.proofs.Loops.{mapped_more}
 use Rattle.odb_sessions.proofs.composing.parts_of.Goals as goal
 

@@ -1,7 +1,7 @@
 use Rattle.std.proofs.Common.{◌≡◌, [], Option, None, Some, option_map, unwrap_or, sym, ap, ◌∙◌}
 use Rattle.odb_service.specs.Session.{filter_of}
 use Rattle.odb_sessions.specs.Filtered.{Filters}
-use Rattle.odb_sessions.specs.Held.{Watched}
+use Rattle.odb_sessions.specs.Marked.{Watched}
 use Rattle.odb_sessions.specs.Represented.Digest.{asked_digest}
 use Rattle.odb_sessions.specs.Represented.Job.{filters_by}
 use Rattle.odb_sessions.specs.Represented.Under.{filters_in}

@@ -1,7 +1,7 @@
 use Rattle.std.proofs.Common.{rules, ◌≡◌, ◌<◌, ◌≤◌, ◌++◌, List, flat_map, length, map, slice_index_or, take, append-nil, append_assoc, refl, sym, ap, ◌∙◌}
 use Rattle.std.proofs.lemmas.List.{take_all}
 use Rattle.odb_interest.specs.Keys.{Interests, asked_at}
-use Rattle.odb_sessions.specs.Held.{Held, Watched}
+use Rattle.odb_sessions.specs.Marked.{MarkedMonitor, Watched}
 use Rattle.odb_sessions.specs.Owed.{KeepsOthers, filter_asked, filters_asked}
 use Rattle.odb_sessions.proofs.Loops.{flat_more}
 use Rattle.odb_sessions.proofs.interest.add_monitors.Goals as goal
@@ -14,9 +14,9 @@ loop-monitor-init c = record {
 
 pub loop-monitor-preserved : goal.loop-monitor-preserved
 loop-monitor-preserved c =
-    let xs : List Held = c.args.monitors.now in
+    let xs : List MarkedMonitor = c.args.monitors.now in
     let i = c.loop-monitor.monitor-index in
-    let x : Held = c.monitor-item.result in
+    let x : MarkedMonitor = c.monitor-item.result in
     let s = c.args.session in
     let old : Interests = c.loop-monitor.interest in
     let new : Interests = c.add_tables.new.interest in
@@ -35,6 +35,6 @@ loop-monitor-preserved c =
 
 pub returns-clause-ok : goal.returns-clause-ok
 returns-clause-ok c =
-    let xs : List Held = c.args.monitors.now in
+    let xs : List MarkedMonitor = c.args.monitors.now in
     let past : length xs ≤ c.loop-monitor.monitor-index = search rules in
-    c.loop-monitor.invariant.asked ∙ ap (λ (ys : List Held). asked_at c.args.interest.now c.args.session ++ flat_map filters_asked ys) (take_all c.loop-monitor.monitor-index xs past)
+    c.loop-monitor.invariant.asked ∙ ap (λ (ys : List MarkedMonitor). asked_at c.args.interest.now c.args.session ++ flat_map filters_asked ys) (take_all c.loop-monitor.monitor-index xs past)

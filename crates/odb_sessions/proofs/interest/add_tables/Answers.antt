@@ -2,7 +2,7 @@ use Rattle.std.proofs.Common.{rules, ◌≡◌, ◌<◌, ◌≤◌, ◌++◌, []
 use Rattle.std.proofs.lemmas.List.{take_all}
 use Rattle.odb_interest.specs.Keys.{Interests, asked_at}
 use Rattle.odb_interest.specs.Represented.Lists.{Asks}
-use Rattle.odb_sessions.specs.Held.{Watched}
+use Rattle.odb_sessions.specs.Marked.{Watched}
 use Rattle.odb_sessions.specs.Owed.{filter_asked}
 use Rattle.odb_sessions.proofs.Interests.{asked_more, asks_others}
 use Rattle.odb_sessions.proofs.Loops.{mapped_more}

@@ -3,15 +3,15 @@ use Rattle.std.proofs.lemmas.Result.{on_ok_weaker}
 use Rattle.std.specs.Bool.{OnTrue}
 use Rattle.std.specs.Option.{option_copied}
 use Rattle.odb_interest.specs.Keys.{Asked}
-use Rattle.odb_sessions.specs.Held.{Held, Kept, seen}
+use Rattle.odb_sessions.specs.Marked.{MarkedMonitor, MarkedSession, seen}
 use Rattle.odb_sessions.specs.Owed.{filters_asked, interest_if}
 use Rattle.odb_sessions.proofs.Interests.{asks_it, kept_asks}
 use Rattle.odb_sessions.proofs.interest.cover.Goals as goal
 
 pub returns-then-are_asked-clause-ok : goal.returns-then-are_asked-clause-ok
 returns-then-are_asked-clause-ok c =
-    let x : Kept = c.in-Some.of.now in
-    let ms : List Held = c.as_slice-monitors.result.now in
+    let x : MarkedSession = c.in-Some.of.now in
+    let ms : List MarkedMonitor = c.as_slice-monitors.result.now in
     let there : option_copied c.args.of ≡ Some x = search rules in
     let monitors : ms ≡ x.monitors = search rules in
     let filters : List Asked = c.asked-filters.result.now in
@@ -20,8 +20,8 @@ returns-then-are_asked-clause-ok c =
 
 pub returns-then-are_of_tables-clause-ok : goal.returns-then-are_of_tables-clause-ok
 returns-then-are_of_tables-clause-ok c =
-    let x : Kept = c.in-Some.of.now in
-    let ms : List Held = c.as_slice-monitors.result.now in
+    let x : MarkedSession = c.in-Some.of.now in
+    let ms : List MarkedMonitor = c.as_slice-monitors.result.now in
     let there : option_copied c.args.of ≡ Some x = search rules in
     let monitors : ms ≡ x.monitors = search rules in
     on_ok_weaker c.put_monitors.result
@@ -30,8 +30,8 @@ returns-then-are_of_tables-clause-ok c =
 
 pub returns-clause-ok : goal.returns-clause-ok
 returns-clause-ok c =
-    let x : Kept = c.in-Some.of.now in
-    let ms : List Held = c.as_slice-monitors.result.now in
+    let x : MarkedSession = c.in-Some.of.now in
+    let ms : List MarkedMonitor = c.as_slice-monitors.result.now in
     let there : option_copied c.args.of ≡ Some x = search rules in
     let monitors : ms ≡ x.monitors = search rules in
     on_ok_weaker c.add_monitors.result

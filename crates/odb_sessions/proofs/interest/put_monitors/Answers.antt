@@ -1,7 +1,7 @@
 use Rattle.std.proofs.Common.{rules, ◌≡◌, ◌<◌, ◌≤◌, List, flat_map, length, map, slice_index_or, take, refl, sym, subst, ◌∙◌}
 use Rattle.std.proofs.lemmas.List.{take_all}
 use Rattle.odb_interest.specs.Keys.{Interests, asked_at}
-use Rattle.odb_sessions.specs.Held.{Held, Watched}
+use Rattle.odb_sessions.specs.Marked.{MarkedMonitor, Watched}
 use Rattle.odb_sessions.specs.Owed.{IsPut, KeepsOthers, filter_asked, filters_asked}
 use Rattle.odb_sessions.proofs.Interests.{puts_all, puts_both, puts_none}
 use Rattle.odb_sessions.proofs.Loops.{flat_more}
@@ -15,9 +15,9 @@ loop-monitor-init c = record {
 
 pub loop-monitor-preserved : goal.loop-monitor-preserved
 loop-monitor-preserved c =
-    let xs : List Held = c.args.monitors.now in
+    let xs : List MarkedMonitor = c.args.monitors.now in
     let i = c.loop-monitor.monitor-index in
-    let x : Held = c.monitor-item.result in
+    let x : MarkedMonitor = c.monitor-item.result in
     let s = c.args.session in
     let first : Interests = c.args.interest.now in
     let old : Interests = c.loop-monitor.interest in
@@ -36,8 +36,8 @@ loop-monitor-preserved c =
 
 pub returns-clause-ok : goal.returns-clause-ok
 returns-clause-ok c =
-    let xs : List Held = c.args.monitors.now in
+    let xs : List MarkedMonitor = c.args.monitors.now in
     let s = c.args.session in
     let past : length xs ≤ c.loop-monitor.monitor-index = search rules in
     puts_all (asked_at c.args.interest.now s) (asked_at c.loop-monitor.interest s) (flat_map filters_asked xs) c.loop-monitor.place c.requires
-    (subst (λ (ys : List Held). IsPut (asked_at c.args.interest.now s) (asked_at c.loop-monitor.interest s) 0 (flat_map filters_asked ys) c.loop-monitor.place) (take_all c.loop-monitor.monitor-index xs past) c.loop-monitor.invariant.asked)
+    (subst (λ (ys : List MarkedMonitor). IsPut (asked_at c.args.interest.now s) (asked_at c.loop-monitor.interest s) 0 (flat_map filters_asked ys) c.loop-monitor.place) (take_all c.loop-monitor.monitor-index xs past) c.loop-monitor.invariant.asked)

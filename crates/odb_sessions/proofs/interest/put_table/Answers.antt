@@ -2,7 +2,7 @@ use Rattle.std.proofs.Common.{rules, ◌≡◌, ap, ◌∙◌}
 use Rattle.std.specs.Arc.{arc_value}
 use Rattle.odb_interest.specs.Keys.{Interests, asked_at}
 use Rattle.odb_interest.specs.Represented.Lists.{Asks, with_filter}
-use Rattle.odb_sessions.specs.Held.{Watched}
+use Rattle.odb_sessions.specs.Marked.{Watched}
 use Rattle.odb_sessions.specs.Owed.{filter_asked}
 use Rattle.odb_sessions.proofs.Interests.{asks_it, puts_one}
 use Rattle.odb_sessions.proofs.interest.put_table.Goals as goal

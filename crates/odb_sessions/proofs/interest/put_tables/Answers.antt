@@ -1,7 +1,7 @@
 use Rattle.std.proofs.Common.{rules, ◌≡◌, ◌<◌, ◌≤◌, [], ◌∷◌, List, length, map, slice_index_or, take, refl, sym, subst, ◌∙◌}
 use Rattle.std.proofs.lemmas.List.{take_all}
 use Rattle.odb_interest.specs.Keys.{Interests, asked_at}
-use Rattle.odb_sessions.specs.Held.{Watched}
+use Rattle.odb_sessions.specs.Marked.{Watched}
 use Rattle.odb_sessions.specs.Owed.{IsPut, KeepsOthers, filter_asked}
 use Rattle.odb_sessions.proofs.Interests.{puts_both, puts_none}
 use Rattle.odb_sessions.proofs.Loops.{mapped_more}

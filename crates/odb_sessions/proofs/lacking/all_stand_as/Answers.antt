@@ -1,5 +1,5 @@
 use Rattle.std.proofs.Common.{rules, ◌≡◌, ◌<◌, true, List, length, slice_index_or}
-use Rattle.odb_sessions.specs.Held.{Watched}
+use Rattle.odb_sessions.specs.Marked.{Watched}
 use Rattle.odb_sessions.proofs.Stands.{one_more_stands}
 use Rattle.odb_sessions.proofs.lacking.all_stand_as.Goals as goal
 

@@ -2,7 +2,7 @@ use Rattle.std.proofs.Common.{rules, ◌≡◌, ◌<◌, true, List, [], ◌∷�
 use Rattle.std.proofs.lemmas.List.{map_more}
 use Rattle.odb_monitor.specs.View.{Contents}
 use Rattle.odb_sessions.specs.Composed.{IsKnown, part_to}
-use Rattle.odb_sessions.specs.Held.{Watched}
+use Rattle.odb_sessions.specs.Marked.{Watched}
 use Rattle.odb_sessions.proofs.lacking.are_now.Goals as goal
 
 pub is_told-requires : goal.is_told-requires

@@ -1,5 +1,5 @@
 use Rattle.std.proofs.Common.{drop}
-use Rattle.odb_sessions.specs.Held.{marks_in}
+use Rattle.odb_sessions.specs.Marked.{marks_in}
 use Rattle.odb_sessions.proofs.Lent.{Lends}
 use Rattle.odb_sessions.proofs.lending.lend_monitors.Given as goal
 

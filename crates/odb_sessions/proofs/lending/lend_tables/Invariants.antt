@@ -1,5 +1,5 @@
 use Rattle.std.proofs.Common.{◌≡◌, ◌++◌, map, take}
-use Rattle.odb_sessions.specs.Held.{table_marks}
+use Rattle.odb_sessions.specs.Marked.{table_marks}
 use Rattle.odb_sessions.proofs.lending.lend_tables.Given as goal
 
 abbrev pub invariant-loop-table : goal.invariant-loop-table

@@ -1,7 +1,7 @@
 use Rattle.std.proofs.Common.{rules, ◌≡◌, List, [], ◌∷◌, ◌++◌, length, subst, sym, ◌∙◌}
 use Rattle.std.proofs.lemmas.List.{nil_from_length}
 use Rattle.odb_chain.specs.Chains.{Mark}
-use Rattle.odb_sessions.specs.Held.{Watched, table_marks}
+use Rattle.odb_sessions.specs.Marked.{Watched, table_marks}
 use Rattle.odb_sessions.specs.Tied.{Frees, HasAll}
 use Rattle.odb_sessions.proofs.Releases.{frees_none, frees_on, has-left, has-rest}
 use Rattle.odb_sessions.proofs.monitor.release_all.Goals as goal

@@ -1,6 +1,6 @@
 use Rattle.odb_chain.specs.Chains.{Chains}
 use Rattle.odb_sessions.specs.Tied.{Frees, HasAll}
-use Rattle.odb_sessions.specs.Held.{table_marks}
+use Rattle.odb_sessions.specs.Marked.{table_marks}
 use Rattle.odb_sessions.proofs.monitor.release_all.Given as goal
 
 abbrev pub invariant-loop-table : goal.invariant-loop-table

@@ -3,7 +3,7 @@ use Rattle.std.proofs.lemmas.List.{length-append, map-append}
 use Rattle.odb_chain.specs.Chains.{Chains, Mark}
 use Rattle.odb_request.specs.Request.{Request}
 use Rattle.odb_sessions.specs.Composed.{AreTheirs}
-use Rattle.odb_sessions.specs.Held.{Watched, table_marks}
+use Rattle.odb_sessions.specs.Marked.{Watched, table_marks}
 use Rattle.odb_sessions.specs.Started.{AreOfTables}
 use Rattle.odb_sessions.specs.Tied.{Adds, counted_in}
 use Rattle.odb_sessions.proofs.Adds.{adds_none, adds_on, adds_one}

@@ -1,7 +1,7 @@
 use Rattle.std.proofs.Common.{◌≡◌, ◌+◌, ◌^◌, ◌<◌, ◌≤◌, ◌++◌, length, map}
 use Rattle.std.specs.Prelude.{vec_len, vec_capacity}
 use Rattle.odb_sessions.specs.Composed.{AreTheirs}
-use Rattle.odb_sessions.specs.Held.{table_marks}
+use Rattle.odb_sessions.specs.Marked.{table_marks}
 use Rattle.odb_sessions.specs.Started.{AreOfTables}
 use Rattle.odb_sessions.specs.Tied.{Adds, counted_in}
 use Rattle.odb_sessions.proofs.monitor.watch_all.Given as goal

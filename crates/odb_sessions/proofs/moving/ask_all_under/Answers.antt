@@ -2,9 +2,9 @@ use Rattle.std.proofs.Common.{rules, ◌≡◌, ◌+◌, ◌<◌, ◌≤◌, ari
 use Rattle.std.proofs.lemmas.List.{drop-set-lt, drop_more}
 use Rattle.odb_cond.specs.Filter.{Filter}
 use Rattle.odb_sessions.specs.Composed.{asked_as, asked_of}
-use Rattle.odb_sessions.specs.Held.{Watched}
+use Rattle.odb_sessions.specs.Marked.{Watched}
 use Rattle.odb_sessions.specs.Moved.{asked_under}
-use Rattle.odb_sessions.specs.Represented.Queued.{filters_of}
+use Rattle.odb_sessions.specs.Represented.Item.{filters_of}
 use Rattle.odb_sessions.specs.Started.{AreApart}
 use Rattle.odb_sessions.proofs.Brought.{all_done, one_more}
 use Rattle.odb_sessions.proofs.TakenFilters.{Filters, SameFor, apart_rest, same_first, same_rest}

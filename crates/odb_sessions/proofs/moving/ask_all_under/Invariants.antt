@@ -1,7 +1,7 @@
 use Rattle.std.proofs.Common.{◌≡◌, drop, map}
 use Rattle.odb_sessions.specs.Composed.{asked_of}
 use Rattle.odb_sessions.specs.Moved.{asked_under}
-use Rattle.odb_sessions.specs.Represented.Queued.{filters_of}
+use Rattle.odb_sessions.specs.Represented.Item.{filters_of}
 use Rattle.odb_sessions.specs.Started.{AreApart}
 use Rattle.odb_sessions.proofs.Brought.{from_place}
 use Rattle.odb_sessions.proofs.TakenFilters.{SameFor}

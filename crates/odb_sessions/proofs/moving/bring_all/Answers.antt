@@ -1,7 +1,7 @@
 use Rattle.std.proofs.Common.{rules, ◌≡◌, ◌+◌, ◌<◌, ◌≤◌, arith, List, [], ◌∷◌, ◌++◌, drop, length, slice_index_or, slice_set, refl, subst, sym, ap, ◌∙◌}
 use Rattle.std.proofs.lemmas.List.{drop-set-lt, drop_all, drop_more}
 use Rattle.odb_chain.specs.Chains.{Chains, Mark}
-use Rattle.odb_sessions.specs.Held.{Watched, table_marks}
+use Rattle.odb_sessions.specs.Marked.{Watched, table_marks}
 use Rattle.odb_sessions.specs.Moved.{Moves, brought_to}
 use Rattle.odb_sessions.specs.Tied.{HasAll}
 use Rattle.odb_sessions.proofs.Brought.{all_done, brought_same, one_more}

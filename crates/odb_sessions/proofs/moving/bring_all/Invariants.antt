@@ -1,6 +1,6 @@
 use Rattle.std.proofs.Common.{◌≡◌, drop, map}
 use Rattle.odb_chain.specs.Chains.{Chains, IsNow}
-use Rattle.odb_sessions.specs.Held.{table_marks}
+use Rattle.odb_sessions.specs.Marked.{table_marks}
 use Rattle.odb_sessions.specs.Moved.{Moves, brought_to}
 use Rattle.odb_sessions.specs.Tied.{HasAll}
 use Rattle.odb_sessions.proofs.Brought.{from_place}

@@ -4,9 +4,9 @@ use Rattle.odb_chain.specs.Chains.{Chains, Mark}
 use Rattle.odb_cond.specs.Filter.{Filter}
 use Rattle.odb_service.specs.Session.{filter_of}
 use Rattle.odb_sessions.specs.Composed.{asked_of}
-use Rattle.odb_sessions.specs.Held.{Watched, table_marks}
+use Rattle.odb_sessions.specs.Marked.{Watched, table_marks}
 use Rattle.odb_sessions.specs.Moved.{Moves, brought_under, told_now}
-use Rattle.odb_sessions.specs.Represented.Queued.{filters_of}
+use Rattle.odb_sessions.specs.Represented.Item.{filters_of}
 use Rattle.odb_sessions.specs.Started.{AreApart}
 use Rattle.odb_sessions.specs.Tied.{HasAll}
 use Rattle.odb_sessions.proofs.Brought.{all_done, one_more, told_same}

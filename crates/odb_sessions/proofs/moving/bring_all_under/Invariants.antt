@@ -1,10 +1,10 @@
 use Rattle.std.proofs.Common.{◌≡◌, drop, map}
 use Rattle.odb_chain.specs.Chains.{Chains, IsNow}
 use Rattle.odb_sessions.specs.Composed.{asked_of}
-use Rattle.odb_sessions.specs.Held.{table_marks}
+use Rattle.odb_sessions.specs.Marked.{table_marks}
 use Rattle.odb_sessions.specs.Moved.{Moves, brought_under}
 use Rattle.odb_sessions.specs.Tied.{HasAll}
-use Rattle.odb_sessions.specs.Represented.Queued.{filters_of}
+use Rattle.odb_sessions.specs.Represented.Item.{filters_of}
 use Rattle.odb_sessions.specs.Started.{AreApart}
 use Rattle.odb_sessions.proofs.Brought.{from_place}
 use Rattle.odb_sessions.proofs.TakenFilters.{SameFor}

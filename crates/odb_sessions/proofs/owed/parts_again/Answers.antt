@@ -1,6 +1,6 @@
 use Rattle.std.proofs.Common.{rules, ◌≡◌, ◌<◌, List, length, slice_index_or, subst, sym}
 use Rattle.odb_sessions.specs.Composed.{IsKnown}
-use Rattle.odb_sessions.specs.Held.{Watched}
+use Rattle.odb_sessions.specs.Marked.{Watched}
 use Rattle.odb_sessions.proofs.owed.parts_again.Goals as goal
 
 pub part_again-part-requires : goal.part_again-part-requires

@@ -3,7 +3,7 @@ use Rattle.std.specs.Prelude.{option_to_list}
 use Rattle.std.proofs.lemmas.List.{drop_all}
 use Rattle.odb_monitor.specs.Job.{Part}
 use Rattle.odb_sessions.specs.Composed.{IsKnown, IsLacking, part_to}
-use Rattle.odb_sessions.specs.Held.{Watched}
+use Rattle.odb_sessions.specs.Marked.{Watched}
 use Rattle.odb_sessions.proofs.Silent.{Same, same_none, same_step, same_updates}
 use Rattle.odb_sessions.proofs.Steps.{front}
 use Rattle.odb_sessions.proofs.owed.parts_lacking.Goals as goal

@@ -1,7 +1,7 @@
 use Rattle.std.proofs.Common.{rules, ◌≡◌, ◌≤◌, ◌++◌, ◌<◌, List, [], ◌∷◌, length, map, slice_index_or, take, take_all, subst, sym, ap, ◌∙◌}
 use Rattle.odb_monitor.specs.Job.{Part}
 use Rattle.odb_sessions.specs.Composed.{IsKnown, part_since}
-use Rattle.odb_sessions.specs.Held.{Watched}
+use Rattle.odb_sessions.specs.Marked.{Watched}
 use Rattle.odb_sessions.proofs.Loops.{mapped_twice, mapped_more}
 use Rattle.odb_sessions.proofs.owed.parts_since.Goals as goal
 

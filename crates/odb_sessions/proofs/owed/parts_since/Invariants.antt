@@ -1,7 +1,7 @@
 use Rattle.std.proofs.Common.{◌≡◌, ◌≤◌, length, map, take}
 use Rattle.std.specs.Prelude.{vec_len, vec_capacity}
 use Rattle.odb_sessions.specs.Composed.{part_since}
-use Rattle.odb_sessions.specs.Held.{Watched}
+use Rattle.odb_sessions.specs.Marked.{Watched}
 use Rattle.odb_sessions.proofs.owed.parts_since.Given as goal
 
 abbrev pub invariant-loop-table : goal.invariant-loop-table

@@ -3,7 +3,7 @@ use Rattle.std.specs.BTreeSet.{contains}
 use Rattle.std.specs.Ordering.{nat_cmp}
 use Rattle.odb_chain.specs.Chains.{Chains}
 use Rattle.odb_recent.specs.Recent.{recent_of}
-use Rattle.odb_sessions.specs.Held.{Sessions}
+use Rattle.odb_sessions.specs.Marked.{Sessions}
 use Rattle.odb_sessions.proofs.Carried.{ready_at}
 use Rattle.odb_sessions.proofs.CarriedOut.{seen_after, tied_after}
 use Rattle.odb_sessions.proofs.Refreshed.{refreshed}

@@ -2,7 +2,7 @@ use Rattle.std.proofs.Common.{rules, ◌≡◌, ◌+◌, ◌≤◌, arith, map}
 use Rattle.std.proofs.lemmas.Result.{on_ok_weaker}
 use Rattle.odb_service.specs.Session.{replies_in}
 use Rattle.odb_sessions.specs.Carried.{all_begin}
-use Rattle.odb_sessions.specs.Held.{item_seen}
+use Rattle.odb_sessions.specs.Marked.{item_seen}
 use Rattle.odb_sessions.proofs.Used.{few_begin}
 use Rattle.odb_sessions.proofs.session.make_room.Goals as goal
 

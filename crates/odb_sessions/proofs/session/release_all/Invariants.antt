@@ -1,6 +1,6 @@
 use Rattle.std.proofs.Common.{flat_map}
 use Rattle.odb_chain.specs.Chains.{Chains}
-use Rattle.odb_sessions.specs.Held.{marks_in}
+use Rattle.odb_sessions.specs.Marked.{marks_in}
 use Rattle.odb_sessions.specs.Tied.{Frees, HasAll}
 use Rattle.odb_sessions.proofs.session.release_all.Given as goal
 

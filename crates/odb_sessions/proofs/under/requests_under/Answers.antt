@@ -1,7 +1,7 @@
 use Rattle.std.proofs.Common.{rules, ◌≡◌, ◌++◌, ◌<◌, List, [], ◌∷◌, length, slice_index_or, sym, ◌∙◌}
 use Rattle.odb_request.specs.Request.{Request}
 use Rattle.odb_sessions.specs.Filtered.{asked_under}
-use Rattle.odb_sessions.specs.Held.{Watched}
+use Rattle.odb_sessions.specs.Marked.{Watched}
 use Rattle.odb_sessions.specs.Represented.Under.{filters_in}
 use Rattle.odb_sessions.proofs.Loops.{twice_more}
 use Rattle.odb_sessions.proofs.under.requests_under.Goals as goal

@@ -1,5 +1,5 @@
 use Rattle.std.proofs.Common.{◌≡◌, map, take}
-use Rattle.odb_sessions.specs.Held.{monitor_of}
+use Rattle.odb_sessions.specs.Marked.{monitor_of}
 use Rattle.odb_sessions.specs.Watches.{asking_of}
 use Rattle.odb_sessions.proofs.watch.ask_the_same.Given as goal
 

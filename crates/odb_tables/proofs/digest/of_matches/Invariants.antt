@@ -2,7 +2,7 @@ use Rattle.std.proofs.Common.{◌≡◌, drop, IsTrue}
 use Rattle.odb_atoms.specs.Row.{Row}
 use Rattle.odb_atoms.specs.Uuid.{Uuid}
 use Rattle.odb_cond.specs.Condition.{holds_all}
-use Rattle.odb_tables.specs.Kept.{cells_at}
+use Rattle.odb_tables.specs.Indexed.{cells_at}
 use Rattle.odb_tables.specs.Represented.Digest.{after_values}
 use Rattle.odb_tables.proofs.digest.of_matches.Given as goal
 

@@ -4,7 +4,7 @@ use Rattle.std.specs.RandomState.{initial_hasher}
 use Rattle.odb_atoms.specs.Row.{cell, declared}
 use Rattle.odb_atoms.specs.Uuid.{uuid_from, zero_uuid}
 use Rattle.std.specs.Hash.DefaultHasher as sip
-use Rattle.odb_tables.specs.Kept.{cells_at}
+use Rattle.odb_tables.specs.Indexed.{cells_at}
 use Rattle.odb_tables.specs.Represented.Digest.{after_value, after_values, digest}
 use Rattle.odb_tables.proofs.Steps.{front_or}
 use Rattle.odb_tables.proofs.digest.of_row.Goals as goal

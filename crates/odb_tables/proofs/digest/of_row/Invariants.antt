@@ -1,5 +1,5 @@
 use Rattle.std.proofs.Common.{◌≡◌, drop}
-use Rattle.odb_tables.specs.Kept.{cells_at}
+use Rattle.odb_tables.specs.Indexed.{cells_at}
 use Rattle.odb_tables.specs.Represented.Digest.{after_values}
 use Rattle.odb_tables.proofs.digest.of_row.Given as goal
 

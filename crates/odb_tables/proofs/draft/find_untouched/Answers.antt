@@ -1,7 +1,7 @@
 use Rattle.std.proofs.Common.{map, IfSome, sym, subst}
 use Rattle.std.proofs.lemmas.Result.{on_ok_weaker}
 use Rattle.odb_atoms.specs.Represented.Atom.{uuid_of}
-use Rattle.odb_tables.specs.Represented.Keeping.{Suffices}
+use Rattle.odb_tables.specs.Represented.RowIndex.{Suffices}
 use Rattle.odb_tables.proofs.Candidates.{among-Appends}
 use Rattle.odb_tables.proofs.draft.find_untouched.Goals as goal
 

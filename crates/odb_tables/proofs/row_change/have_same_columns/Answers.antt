@@ -14,6 +14,6 @@ returns-in-Some-Some c = λ number.
     let q : Row = arc_value c.in-Some-Some.new.now in
     let old : row_of (option_copied c.args.old) ≡ Some p = ap (λ o. row_of (option_copied o)) c.in-Some-Some.is-0 in
     let new : row_of (option_copied c.args.new) ≡ Some q = ap (λ o. row_of (option_copied o)) c.in-Some-Some.is-1 in
-    let first : c.columns.result.now ≡ p.columns = c.columns.ensures ∙ ap (λ (r : Row). r.columns) c.deref.ensures in
-    let second : c.columns-in-Some-Some.result.now ≡ q.columns = c.columns-in-Some-Some.ensures ∙ ap (λ (r : Row). r.columns) c.deref-in-Some-Some.ensures in
-    c.are_equal.ensures ∙ (λ i. same_values (first i) (second i)) ∙ same_columns number p q ∙ (λ i. let o : Option Row = sym old i in let n : Option Row = sym new i in not (is_some (changed_row o (option_map (stamped_row number o) n))))
+    let first : c.deref.result.now ≡ p = c.deref.ensures in
+    let second : c.deref-in-Some-Some.result.now ≡ q = c.deref-in-Some-Some.ensures in
+    c.are_equal_from.ensures ∙ (λ i. let a : Row = first i in let b : Row = second i in same_values a.columns b.columns) ∙ same_columns number p q ∙ (λ i. let o : Option Row = sym old i in let n : Option Row = sym new i in not (is_some (changed_row o (option_map (stamped_row number o) n))))

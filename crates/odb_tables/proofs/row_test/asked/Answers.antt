@@ -2,7 +2,7 @@ use Rattle.std.proofs.Common.{rules, ◌≡◌, true, false, IfSome, sym, ap, su
 use Rattle.odb_atoms.specs.Uuid.{Uuid}
 use Rattle.odb_atoms.specs.Value.{is_map}
 use Rattle.odb_cond.specs.Condition.{equal, includes}
-use Rattle.odb_tables.specs.Kept.{mentions}
+use Rattle.odb_tables.specs.Indexed.{mentions}
 use Rattle.odb_tables.proofs.Conditions.{asked_equal, asked_included}
 use Rattle.odb_tables.proofs.Facets.{if_some}
 use Rattle.odb_tables.proofs.row_test.asked.Goals as goal

@@ -2,7 +2,7 @@ use Rattle.std.proofs.Common.{rules, ◌≡◌, true, IfSome, subst}
 use Rattle.odb_atoms.specs.Row.{Row, cell, own_uuid}
 use Rattle.odb_atoms.specs.Uuid.{Uuid}
 use Rattle.odb_cond.specs.Condition.{holds}
-use Rattle.odb_tables.specs.Kept.{mentions}
+use Rattle.odb_tables.specs.Indexed.{mentions}
 use Rattle.odb_tables.proofs.Conditions.{named}
 use Rattle.odb_tables.proofs.Facets.{if_some}
 use Rattle.odb_tables.proofs.row_test.named_by.Goals as goal

@@ -1,6 +1,6 @@
 use Rattle.std.proofs.Common.{rules, ◌≡◌, slice_get, unwrap_or, None, sym, ap, ◌∙◌}
 use Rattle.odb_atoms.specs.Represented.Atom.{uuid_of}
-use Rattle.odb_tables.specs.Kept.{mentions}
+use Rattle.odb_tables.specs.Indexed.{mentions}
 use Rattle.odb_tables.proofs.Twins.{mentions-nothing, nothing_in}
 use Rattle.odb_tables.proofs.row_test.refers.Goals as goal
 

@@ -2,7 +2,7 @@ use Rattle.std.proofs.Common.{◌≡◌, ◌⊎◌, true, drop}
 use Rattle.std.specs.List.{list_any}
 use Rattle.std.specs.Ordering.{eq_by_cmp}
 use Rattle.odb_atoms.specs.Uuid.{Uuid, uuid_cmp}
-use Rattle.odb_tables.specs.Represented.Keeping.{KeepsKeys}
+use Rattle.odb_tables.specs.Represented.RowIndex.{KeepsKeys}
 use Rattle.odb_tables.proofs.rows.add_all.Given as goal
 
 abbrev pub invariant-loop-key : goal.invariant-loop-key

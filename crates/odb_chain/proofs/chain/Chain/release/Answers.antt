@@ -1,8 +1,8 @@
 use Rattle.std.proofs.Common.{subst, sym}
 use Rattle.odb_atoms.specs.FinMap as finite
-use Rattle.odb_chain.specs.Kept.{Rows}
+use Rattle.odb_chain.specs.OldRows.{Rows}
 use Rattle.odb_chain.specs.Represented.Chain.{Chain, IsChainOf}
-use Rattle.odb_chain.specs.Represented.Places.{IsPast}
+use Rattle.odb_chain.specs.Represented.MarkedVersions.{IsPast}
 use Rattle.odb_chain.proofs.chain.Chain.release.Goals as goal
 
 pub returns-then-ne-clause-past : goal.returns-then-ne-clause-past

@@ -2,7 +2,7 @@ use Rattle.std.proofs.Common.{rules, ◌≡◌, ◌+◌, ◌<◌, arith, [], ◌
 use Rattle.std.proofs.lemmas.Bool.Decides.{nat_tests}
 use Rattle.odb_chain.specs.Represented.Chain.{AreRising}
 use Rattle.odb_chain.proofs.chain.Chain.step.Goals as goal
-use Rattle.odb_chain.proofs.Places.{rising_later, rising_pushed}
+use Rattle.odb_chain.proofs.MarkedVersions.{rising_later, rising_pushed}
 
 pub invariant_of-self : goal.invariant_of-self
 invariant_of-self c = rising_later c.self.inside.version c.self.inside.live.items c.self.invariant

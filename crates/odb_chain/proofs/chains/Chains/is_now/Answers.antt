@@ -18,8 +18,8 @@ index-requires c =
     let long : length cs ≡ c.self.inside.chains.len = search rules in
     subst (λ n. c.place.result < n) long (subst (λ n. n < length cs) (sym at) low)
 
-pub returns-clause-place : goal.returns-clause-place
-returns-clause-place c =
+pub returns-clause-version : goal.returns-clause-version
+returns-clause-version c =
     let db : Db = c.self.inside.db in
     let cs : List Chain = c.self.inside.chains.items in
     let m : Mark = c.args.mark.now in
@@ -30,7 +30,7 @@ returns-clause-place c =
     let low : c.place.result < length cs = subst (λ n. n < length cs) (sym at) (live_inside db cs m c.self.invariant live) in
     let x_is : x ≡ chain_at cs c.place.result = chain_is cs c.place.result x low (search rules) in
     let v : c.version.result ≡ version c.args.self.now m.table = c.version.ensures ∙ ap (λ (y : Chain). y.version) (x_is ∙ ap (chain_at cs) at) ∙ sym (version_shown db cs m.table) ∙ ap (λ (k : Chains). version k m.table) c.self.view_is in
-    λ i. nat_eq (ap (λ (y : Mark). y.place) c.mark.view_is i) (v i)
+    λ i. nat_eq (ap (λ (y : Mark). y.version) c.mark.view_is i) (v i)
 
 pub returns-clause-content : goal.returns-clause-content
 returns-clause-content c = λ same.
@@ -38,6 +38,6 @@ returns-clause-content c = λ same.
     let cs : List Chain = c.self.inside.chains.items in
     let m : Mark = c.args.mark.now in
     let live : IsLive (shown db cs) m = subst (λ (k : Chains). IsLive k m) (sym c.self.view_is) c.requires in
-    let test : nat_eq m.place (version c.args.self.now m.table) ≡ true = sym (returns-clause-place c) ∙ same in
-    let at : m.place ≡ version (shown db cs) m.table = (let e : m.place ≡ version c.args.self.now m.table = grind (arith, nat_tests) in e) ∙ sym (ap (λ (k : Chains). version k m.table) c.self.view_is) in
-    (is_now db cs c.self.invariant m.table m.place _ live.1).1 at ∙ ap (λ (k : Chains). table_at k.db m.table) c.self.view_is
+    let test : nat_eq m.version (version c.args.self.now m.table) ≡ true = sym (returns-clause-version c) ∙ same in
+    let at : m.version ≡ version (shown db cs) m.table = (let e : m.version ≡ version c.args.self.now m.table = grind (arith, nat_tests) in e) ∙ sym (ap (λ (k : Chains). version k m.table) c.self.view_is) in
+    (is_now db cs c.self.invariant m.table m.version _ live.1).1 at ∙ ap (λ (k : Chains). table_at k.db m.table) c.self.view_is

@@ -66,4 +66,4 @@ returns-clause-mark c =
     let below : c.place-place.result < length db = omega arith in
     let table : c.index-tables-place.result ≡ table_at db t = table_is db c.place-place.result c.index-tables-place.result below (search rules) ∙ ap (table_at db) here in
     let content : c.of.result.table ≡ table_at c.args.self.now.db t = c.of.ensures ∙ table ∙ ap (λ (k : Chains). table_at k.db t) c.self.view_is in
-    λ i. record { table = t; place = v i; content = content i }
+    λ i. record { table = t; version = v i; content = content i }

@@ -1,10 +1,10 @@
 use Rattle.std.proofs.Common.{rules, ◌≡◌, ℕ, ◌<◌, List, length, slice_set, true, subst, sym, ap, ◌∙◌}
 use Rattle.odb_tables.specs.Database.{Db, table_at}
 use Rattle.odb_chain.specs.Chains.{Chains, IsLive, Mark, released}
-use Rattle.odb_chain.specs.Kept.{content_at}
-use Rattle.odb_chain.specs.Represented.Chain.{AreChainsOf, Chain, IsChainOf, chain_at, fewer, places, shown}
-use Rattle.odb_chain.specs.Represented.Places.{is_place}
-use Rattle.odb_chain.proofs.Shown.{chain_is, is_now, kept_after, live_inside, live_place, released_shown}
+use Rattle.odb_chain.specs.OldRows.{content_at}
+use Rattle.odb_chain.specs.Represented.Chain.{AreChainsOf, Chain, IsChainOf, chain_at, fewer, marked_versions, shown}
+use Rattle.odb_chain.specs.Represented.MarkedVersions.{is_marked}
+use Rattle.odb_chain.proofs.Shown.{chain_is, is_now, kept_after, live_inside, live_version, released_shown}
 use Rattle.odb_chain.proofs.chains.Chains.release.Goals as goal
 
 pub index_mut-requires : goal.index_mut-requires
@@ -16,7 +16,7 @@ index_mut-requires c =
     let live : IsLive (shown db cs) m = subst (λ (k : Chains). IsLive k m) (sym c.self.view_is) c.requires in
     let own : c.place.result ≡ c.mark.inside.table = search rules in
     let here : c.place.result ≡ t = own ∙ ap (λ (y : Mark). y.table) c.mark.view_is in
-    let place : c.mark.inside.place ≡ m.place = ap (λ (y : Mark). y.place) c.mark.view_is in
+    let stood : c.mark.inside.version ≡ m.version = ap (λ (y : Mark). y.version) c.mark.view_is in
     let inside : t < length cs = live_inside db cs m c.self.invariant live in
     let low : c.place.result < length cs = subst (λ n. n < length cs) (sym here) inside in
     let long : length cs ≡ c.self.inside.chains.len = search rules in
@@ -31,12 +31,12 @@ release-requires c =
     let live : IsLive (shown db cs) m = subst (λ (k : Chains). IsLive k m) (sym c.self.view_is) c.requires in
     let own : c.place.result ≡ c.mark.inside.table = search rules in
     let here : c.place.result ≡ t = own ∙ ap (λ (y : Mark). y.table) c.mark.view_is in
-    let place : c.mark.inside.place ≡ m.place = ap (λ (y : Mark). y.place) c.mark.view_is in
+    let stood : c.mark.inside.version ≡ m.version = ap (λ (y : Mark). y.version) c.mark.view_is in
     let inside : t < length cs = live_inside db cs m c.self.invariant live in
     let low : c.place.result < length cs = subst (λ n. n < length cs) (sym here) inside in
     let x : Chain = c.index_mut.result.now in
     let x_is : x ≡ chain_at cs t = chain_is cs c.place.result x low (search rules) ∙ ap (chain_at cs) here in
-    (λ i. is_place (place i) (places (x_is i))) ∙ live_place db cs m c.self.invariant live
+    (λ i. is_marked (stood i) (marked_versions (x_is i))) ∙ live_version db cs m c.self.invariant live
 
 pub invariant_of-self : goal.invariant_of-self
 invariant_of-self c =
@@ -47,7 +47,7 @@ invariant_of-self c =
     let live : IsLive (shown db cs) m = subst (λ (k : Chains). IsLive k m) (sym c.self.view_is) c.requires in
     let own : c.place.result ≡ c.mark.inside.table = search rules in
     let here : c.place.result ≡ t = own ∙ ap (λ (y : Mark). y.table) c.mark.view_is in
-    let place : c.mark.inside.place ≡ m.place = ap (λ (y : Mark). y.place) c.mark.view_is in
+    let stood : c.mark.inside.version ≡ m.version = ap (λ (y : Mark). y.version) c.mark.view_is in
     let inside : t < length cs = live_inside db cs m c.self.invariant live in
     let low : c.place.result < length cs = subst (λ n. n < length cs) (sym here) inside in
     let x : Chain = c.index_mut.result.now in
@@ -69,7 +69,7 @@ returns-clause-chains c =
     let live : IsLive (shown db cs) m = subst (λ (k : Chains). IsLive k m) (sym c.self.view_is) c.requires in
     let own : c.place.result ≡ c.mark.inside.table = search rules in
     let here : c.place.result ≡ t = own ∙ ap (λ (y : Mark). y.table) c.mark.view_is in
-    let place : c.mark.inside.place ≡ m.place = ap (λ (y : Mark). y.place) c.mark.view_is in
+    let stood : c.mark.inside.version ≡ m.version = ap (λ (y : Mark). y.version) c.mark.view_is in
     let inside : t < length cs = live_inside db cs m c.self.invariant live in
     let low : c.place.result < length cs = subst (λ n. n < length cs) (sym here) inside in
     let x : Chain = c.index_mut.result.now in
@@ -77,7 +77,7 @@ returns-clause-chains c =
     let new : Chain = c.release.new.self in
     let same : new.version ≡ (chain_at cs t).version = c.release.ensures.version ∙ ap (λ (y : Chain). y.version) x_is in
     let past : IsChainOf (table_at db t) (chain_at cs t) → IsChainOf (table_at db t) new = λ h. c.release.ensures.past (table_at db t) (subst (λ (y : Chain). IsChainOf (table_at db t) y) (sym x_is) h) in
-    let gone : places new ≡ fewer m.place (places (chain_at cs t)) = c.release.ensures.places ∙ (λ i. fewer (place i) (places (x_is i))) in
-    let contents : (q : ℕ) → is_place q (places new) ≡ true → content_at q (table_at db t) new.rows ≡ content_at q (table_at db t) (chain_at cs t).rows =
+    let gone : marked_versions new ≡ fewer m.version (marked_versions (chain_at cs t)) = c.release.ensures.marked_versions ∙ (λ i. fewer (stood i) (marked_versions (x_is i))) in
+    let contents : (q : ℕ) → is_marked q (marked_versions new) ≡ true → content_at q (table_at db t) new.rows ≡ content_at q (table_at db t) (chain_at cs t).rows =
     λ q there. c.release.ensures.contents (table_at db t) q there ∙ ap (λ (y : Chain). content_at q (table_at db t) y.rows) x_is in
-    ap (λ n. shown db (slice_set cs n new)) here ∙ released_shown db cs t m.place new c.self.invariant same gone contents ∙ ap (released t m.place) c.self.view_is
+    ap (λ n. shown db (slice_set cs n new)) here ∙ released_shown db cs t m.version new c.self.invariant same gone contents ∙ ap (released t m.version) c.self.view_is

@@ -1,7 +1,7 @@
 use Rattle.std.proofs.Common.{rules, ◌≡◌, ◌<◌, ◌≤◌, arith, List, length, subst, sym, ap, ◌∙◌}
 use Rattle.odb_tables.specs.Database.{Db}
 use Rattle.odb_chain.specs.Chains.{Chains}
-use Rattle.odb_chain.specs.Represented.Chain.{Chain, chain_at, places}
+use Rattle.odb_chain.specs.Represented.Chain.{Chain, chain_at, marked_versions}
 use Rattle.odb_chain.specs.Segments.{contents_held, segments_held}
 use Rattle.odb_chain.proofs.Counts.{contents_are, few_segments, segments_are}
 use Rattle.odb_chain.proofs.Shown.{chain_is}
@@ -26,4 +26,4 @@ returns-clause-few c =
     let t = c.args.table in
     let segments : c.earlier.result ≡ length (chain_at cs t).live = returns-clause-count c ∙ sym (ap (λ (k : Chains). segments_held k t) c.self.view_is) ∙ segments_are db cs t c.self.invariant in
     subst (λ (k : Chains). c.earlier.result ≤ contents_held k t) c.self.view_is
-    (subst (λ n. c.earlier.result ≤ n) (sym (contents_are db cs t c.self.invariant)) (subst (λ n. n ≤ length (places (chain_at cs t))) (sym segments) (few_segments db cs t c.self.invariant)))
+    (subst (λ n. c.earlier.result ≤ n) (sym (contents_are db cs t c.self.invariant)) (subst (λ n. n ≤ length (marked_versions (chain_at cs t))) (sym segments) (few_segments db cs t c.self.invariant)))

@@ -1,8 +1,8 @@
 use Rattle.std.proofs.Common.{rules, ◌≡◌, ℕ, false, Option, ◌∷◌, [], ◌++◌, nat_le, if◌then◌else◌, subst, sym, ap, ◌∙◌}
 use Rattle.odb_atoms.specs.Row.{Row}
-use Rattle.odb_chain.specs.Kept.{History, at, reaches}
+use Rattle.odb_chain.specs.OldRows.{History, at, reaches}
 use Rattle.odb_chain.specs.Represented.Log.{IsLast}
-use Rattle.odb_chain.specs.Represented.Places.{Past, is_label}
+use Rattle.odb_chain.specs.Represented.MarkedVersions.{Past, is_label}
 use Rattle.odb_chain.proofs.Histories.{neutral, past_pushed}
 use Rattle.odb_chain.proofs.Lasts.{last_pushed, unreached_more}
 use Rattle.odb_chain.proofs.history.History.push.Goals as goal
@@ -41,7 +41,7 @@ invariant_of-self-2 c =
     let left : History = c.tidy.new.olds.items in
     let as_it_was : c.reserve.new.self.items ≡ more = search rules in
     let grown : c.push_reserved.new.self.items ≡ left ++ c.args.old ∷ [] = search rules in
-    let place : c.old.inside.place ≡ n = ap (λ (x : ℕ × Option Row). x.0) c.old.view_is in
-    subst (λ q. IsLast q (first ∷ c.push_reserved.new.self.items)) (sym place)
+    let version : c.old.inside.version ≡ n = ap (λ (x : ℕ × Option Row). x.0) c.old.view_is in
+    subst (λ q. IsLast q (first ∷ c.push_reserved.new.self.items)) (sym version)
     (subst (λ (xs : History). IsLast n (first ∷ xs)) (sym grown)
     (last_pushed n r first more left (ap (reaches n) c.self.view_is ∙ c.requires) (λ q e. ap (is_label q) (sym as_it_was) ∙ c.tidy.ensures.labels q e)))

@@ -1,7 +1,7 @@
 use Rattle.std.proofs.Common.{rules, ◌≡◌, [], ◌∷◌, sym, ap, ◌∙◌, subst}
 use Rattle.std.specs.Prelude.{option_map}
 use Rattle.odb_atoms.specs.Uuid.{uuid_from}
-use Rattle.odb_request.specs.Represented.Kind.{notation_of}
+use Rattle.odb_request.specs.Represented.Notation.{notation_of}
 use Rattle.odb_rpc.specs.Represented.Printable.{printable_data}
 use Rattle.odb_wire.specs.Shown.{request_data}
 use Rattle.odb_service.specs.Session.{Item, start}
@@ -19,7 +19,7 @@ use Rattle.odb_core.proofs.server.Core.begin.Goals as goal
 pub returns-clause-ok : goal.returns-clause-ok
 returns-clause-ok c =
     let w : World = c.args.self.now.world in
-    let i : Item = start (request_data c.args.request.now) (record { id = printable_data c.args.asked.id; notation = notation_of c.args.asked.kind; requests = c.args.requests.items; since = option_map uuid_from c.args.asked.since }) in
+    let i : Item = start (request_data c.args.request.now) (record { id = printable_data c.args.asked.id; notation = notation_of c.args.asked.notation; requests = c.args.requests.items; since = option_map uuid_from c.args.asked.since }) in
     let told : c.start.new.self ≡ record { db = w.db; commits = w.commits; earlier = w.earlier; sessions = at_number (push (i ∷ [])) w.sessions c.args.session } = search rules in
     ap (placed c.args.self.now) (post_as c.args.session (i ∷ []) w)
     ∙ (λ j. record {
@@ -34,7 +34,7 @@ invariant_of-self c = subst (λ (b : Book). IsWhole c.self.inside.served b c.sel
 pub invariant_of-self-2 : goal.invariant_of-self-2
 invariant_of-self-2 c =
     let i = c.self.inside in
-    let asked : Item = start (request_data c.args.request.now) (record { id = printable_data c.args.asked.id; notation = notation_of c.args.asked.kind; requests = c.args.requests.items; since = option_map uuid_from c.args.asked.since }) in
+    let asked : Item = start (request_data c.args.request.now) (record { id = printable_data c.args.asked.id; notation = notation_of c.args.asked.notation; requests = c.args.requests.items; since = option_map uuid_from c.args.asked.since }) in
     let told : c.start.new.self ≡ record (i.sessions) { sessions = at_number (push (asked ∷ [])) i.sessions.sessions c.args.session } = search rules in
     let of : AreOfSchema i.served c.args.requests.items = subst (λ (u : Server). AreOfSchema u.schema c.args.requests.items) (sym c.self.view_is) c.requires.of in
     whole_posted i.served i.sessions i.waiting i.locks i.moment i.opened c.args.session (asked ∷ []) c.start.new.self (of, tt) told c.self.invariant

@@ -11,7 +11,7 @@ use Rattle.odb_wire.specs.Shown.{request_data}
 use Rattle.odb_service.specs.Server.{served_by}
 use Rattle.odb_service.specs.World.{World, asked_of, watched}
 use Rattle.odb_sessions.specs.Named.{named}
-use Rattle.odb_sessions.specs.Represented.Queued.{filters_of}
+use Rattle.odb_sessions.specs.Represented.Item.{filters_of}
 use Rattle.odb_core.specs.Represented.Monitors.{Filters, change_for, changed_by, filters_as, is_taken}
 use Rattle.odb_core.proofs.AskedMonitors.{change_is}
 use Rattle.odb_core.proofs.ServerSteps.{placed}

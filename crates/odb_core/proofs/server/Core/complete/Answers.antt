@@ -26,7 +26,7 @@ returns-then-not-changes_rows-clause-ok c =
     done_as s w a None w.commits c.args.results c.args.change false none c.requires.outcome
     ∙ (λ i. let t : World × Option Waiting = ((e i).world, None) in t)
     in
-    ap (placed c.args.self.now) (runs_alone h (waiting_as a None w.commits) w v.world ended (ap (λ (u : Server). untried h u.world) c.reply.ensures.rest ∙ c.requires.tried h))
+    ap (placed c.args.self.now) (runs_alone h (waiting_as a None w.commits) w v.world ended (ap (λ (u : Server). untried h u.world) c.reply.ensures.others ∙ c.requires.tried h))
     ∙ framed c.args.self.now v _ e
 
 pub returns-then-is_empty-clause-ok : goal.returns-then-is_empty-clause-ok

@@ -33,7 +33,7 @@ returns-then-not-is_conditional c =
     let k : Named = c.in-Some.monitor in
     let found : Some k ≡ o = search rules in
     let flag : c.is_conditional.result ≡ false = search rules in
-    let plain : is_conditional k.notation ≡ false = ap is_conditional (sym c.kind.ensures) ∙ sym c.is_conditional.ensures ∙ flag in
+    let plain : is_conditional k.notation ≡ false = ap is_conditional (sym c.notation.ensures) ∙ sym c.is_conditional.ensures ∙ flag in
     not_conditional h (is_taken h old (printable_data c.args.asked.new) x) (read_changes s (view c.args.asked.filters.now)) o k found plain
 
 pub returns-then-branch : goal.returns-then-branch
@@ -47,7 +47,7 @@ returns-then-branch c =
     let k : Named = c.in-Some.monitor in
     let found : Some k ≡ o = search rules in
     let flag : c.is_conditional.result ≡ true = search rules in
-    let conditional : is_conditional k.notation ≡ true = ap is_conditional (sym c.kind.ensures) ∙ sym c.is_conditional.ensures ∙ flag in
+    let conditional : is_conditional k.notation ≡ true = ap is_conditional (sym c.notation.ensures) ∙ sym c.is_conditional.ensures ∙ flag in
     let taken : is_taken h old new x ≡ true = search rules in
     new_taken h (is_taken h old new x) (read_changes s (view c.args.asked.filters.now)) o k found conditional taken
 
@@ -62,6 +62,6 @@ returns c =
     let k : Named = c.in-Some.monitor in
     let found : Some k ≡ o = search rules in
     let flag : c.is_conditional.result ≡ true = search rules in
-    let conditional : is_conditional k.notation ≡ true = ap is_conditional (sym c.kind.ensures) ∙ sym c.is_conditional.ensures ∙ flag in
+    let conditional : is_conditional k.notation ≡ true = ap is_conditional (sym c.notation.ensures) ∙ sym c.is_conditional.ensures ∙ flag in
     let free : is_taken h old new x ≡ false = search rules in
     IfOk-weaker c.filters_for.result _ _ (λ r e. e ∙ ap (λ (v : Server). filters_for k.shapes (read_changes v.schema (view c.args.asked.filters.now))) c.self.view_is ∙ goes_by_filters h (is_taken h old new x) (read_changes s (view c.args.asked.filters.now)) o k found conditional free) c.filters_for.ensures

@@ -4,7 +4,7 @@ use Rattle.odb_wire.specs.Shown.{request_data}
 use Rattle.odb_service.specs.Session.{Item, renamed, shift}
 use Rattle.odb_service.specs.World.{World, push}
 use Rattle.odb_sessions.specs.Posts.{at_number}
-use Rattle.odb_sessions.specs.Represented.Queued.{filters_of}
+use Rattle.odb_sessions.specs.Represented.Item.{filters_of}
 use Rattle.odb_core.proofs.Attempts.{post_as}
 use Rattle.odb_core.proofs.ServerSteps.{placed}
 use Rattle.odb_core.proofs.ValidSteps.{whole_posted}

@@ -44,8 +44,8 @@ returns-in-Ok-Failed-clause-ok c =
     let v : Server = c.reply-ended.new.self in
     let failed : Answers s w.db (outcome.Failed c.in-Ok-Failed.results) (outcome_in s w a) = search rules in
     let ended : OnOk c.reply-ended.result (by_service (ends a c.in-Ok-Failed.results None) c.args.self.now ≡ v) = c.reply-ended.ensures.ok in
-    subst (λ (u : Server). OnOk c.note_failed.result (by_service (runs a) c.args.self.now ≡ u)) (sym c.note_failed.ensures.same)
-    (ok_together (by_service (runs a) c.args.self.now ≡ v) c.note_failed.result c.reply-ended.result c.note_failed.ensures.ok
+    subst (λ (u : Server). OnOk c.add_failed.result (by_service (runs a) c.args.self.now ≡ u)) (sym c.add_failed.ensures.same)
+    (ok_together (by_service (runs a) c.args.self.now ≡ v) c.add_failed.result c.reply-ended.result c.add_failed.ensures.ok
     (on_ok_weaker c.reply-ended.result (λ e. ap (placed c.args.self.now) (runs_alone h p w v.world
     (fails_as s w a None w.commits c.in-Ok-Failed.results failed ∙ (λ i. let t : World × Option Waiting = ((e i).world, None) in t))
-    (ap (λ (u : Server). untried h u.world) c.reply-ended.ensures.rest ∙ c.requires.tried h)) ∙ framed c.args.self.now v _ e) ended))
+    (ap (λ (u : Server). untried h u.world) c.reply-ended.ensures.others ∙ c.requires.tried h)) ∙ framed c.args.self.now v _ e) ended))

@@ -5,7 +5,7 @@ use Rattle.odb_core.specs.declared.refused.EventRefusal.{EventRefusal}
 use Rattle.odb_service.specs.Run.{Event}
 use Rattle.odb_hub.specs.Batch.{Submits}
 use Rattle.odb_hub.specs.Inbox.{Inbox, IsInOrder, Pending, events_at, messages_of}
-use Rattle.odb_hub.specs.Kept.{Kept}
+use Rattle.odb_hub.specs.Guarded.{Guarded}
 use Rattle.odb_hub.specs.Represented.Inbox.{pending_of, submitted_in}
 use Rattle.odb_hub.specs.Represented.Submission.{events_of}
 use Rattle.odb_hub.specs.declared.submission.Submission.{Submission}
@@ -28,7 +28,7 @@ returns-then-others-eq0-clause-submits g c =
     let low : length ps ≤ c.args.most = omega (arith, others, zero, long) in (
       left,
       sym (ap (λ qs. left ++ qs) (none_dropped ps c.args.most low) ∙ append-nil left),
-      subst (λ (qs : List Pending). Submits r s (events_at s c.args.now qs) (events_at s c.args.now left) c.args.hub.now.kept c.submit_turn.new.hub.kept) (sym (all_kept ps c.args.most low)) c.submit_turn.ensures.submits,
+      subst (λ (qs : List Pending). Submits r s (events_at s c.args.now qs) (events_at s c.args.now left) c.args.hub.now.guarded c.submit_turn.new.hub.guarded) (sym (all_kept ps c.args.most low)) c.submit_turn.ensures.submits,
     )
 
 pub invariant_of-self-2 : goal.invariant_of-self-2
@@ -43,7 +43,7 @@ invariant_of-self-2 g c =
     let rest_is : rest ≡ take n xs = search rules in
     let run_is : run ≡ drop n xs = search rules in
     let whole : ys ≡ rest ++ left = search rules in
-    let f : Fronts run left = turn_front c.submit_turn-outcome.result.owes c.args.seat.now.session c.args.now run left c.args.hub.now.kept c.submit_turn-outcome.new.self.kept c.submit_turn-outcome.ensures.submits in
+    let f : Fronts run left = turn_front c.submit_turn-outcome.result.owes c.args.seat.now.session c.args.now run left c.args.hub.now.guarded c.submit_turn-outcome.new.self.guarded c.submit_turn-outcome.ensures.submits in
     let parts : rest ++ run ≡ xs = (λ j. rest_is j ++ run_is j) ∙ take-append-drop n xs in
     let e : pending_of xs ≡ f.0 ++ pending_of ys = ap pending_of (sym parts) ∙ run_taken rest run left f.0 f.1 ∙ ap (λ zs. f.0 ++ pending_of zs) (sym whole) in
     let step : BatchStep = record { before = c.of-before.result; left = c.of-left.result } in
@@ -64,7 +64,7 @@ returns-clause-order g c =
     let rest_is : rest ≡ take n xs = search rules in
     let run_is : run ≡ drop n xs = search rules in
     let whole : ys ≡ rest ++ left = search rules in
-    let f : Fronts run left = turn_front c.submit_turn-outcome.result.owes c.args.seat.now.session c.args.now run left c.args.hub.now.kept c.submit_turn-outcome.new.self.kept c.submit_turn-outcome.ensures.submits in
+    let f : Fronts run left = turn_front c.submit_turn-outcome.result.owes c.args.seat.now.session c.args.now run left c.args.hub.now.guarded c.submit_turn-outcome.new.self.guarded c.submit_turn-outcome.ensures.submits in
     let parts : rest ++ run ≡ xs = (λ j. rest_is j ++ run_is j) ∙ take-append-drop n xs in
     let e : pending_of xs ≡ f.0 ++ pending_of ys = ap pending_of (sym parts) ∙ run_taken rest run left f.0 f.1 ∙ ap (λ zs. f.0 ++ pending_of zs) (sym whole) in
     let step : BatchStep = record { before = c.of-before.result; left = c.of-left.result } in
@@ -92,8 +92,8 @@ returns-clause-submits g c =
     let s : ℕ = c.args.seat.now.session in
     let now : ℕ = c.args.now in
     let r : Result Bool EventRefusal = c.submit_turn-outcome.result.owes in
-    let before : Kept = c.args.hub.now.kept in
-    let after : Kept = c.submit_turn-outcome.new.self.kept in
+    let before : Guarded = c.args.hub.now.guarded in
+    let after : Guarded = c.submit_turn-outcome.new.self.guarded in
     let others : n ≡ length xs - most = search rules in
     let some : 0 < n = some_others n c.if-others-eq0.false in
     let behind : pending_of rest ≡ drop most c.args.self.now.pending = ap pending_of rest_is ∙ sym (run_rest xs n most others some) ∙ ap (λ (x : Inbox). drop most x.pending) c.self.view_is in

@@ -5,7 +5,7 @@ use Rattle.odb_core.specs.declared.refused.EventRefusal.{EventRefusal}
 use Rattle.odb_service.specs.Run.{Event}
 use Rattle.odb_hub.specs.Batch.{Submits}
 use Rattle.odb_hub.specs.Inbox.{Inbox, IsInOrder, Pending, events_at, messages_of}
-use Rattle.odb_hub.specs.Kept.{Kept}
+use Rattle.odb_hub.specs.Guarded.{Guarded}
 use Rattle.odb_hub.specs.Represented.Inbox.{pending_of, submitted_in}
 use Rattle.odb_hub.specs.Represented.Submission.{events_of}
 use Rattle.odb_hub.specs.declared.submission.Submission.{Submission}
@@ -21,7 +21,7 @@ invariant_of-self g c =
     let i = c.self.inside in
     let xs : List Submission = i.batch.items in
     let ys : List Submission = c.submit_turn-outcome.new.batch.items in
-    let f : Fronts xs ys = turn_front c.submit_turn-outcome.result.owes c.args.seat.now.session c.args.now xs ys c.args.hub.now.kept c.submit_turn-outcome.new.self.kept c.submit_turn-outcome.ensures.submits in
+    let f : Fronts xs ys = turn_front c.submit_turn-outcome.result.owes c.args.seat.now.session c.args.now xs ys c.args.hub.now.guarded c.submit_turn-outcome.new.self.guarded c.submit_turn-outcome.ensures.submits in
     let step : BatchStep = record { before = c.of-before.result; left = c.of.result } in
     let took : submitted_in step ≡ messages_of f.0 = noted step xs ys f.0 (λ j. (c.of-before.ensures j).items) (λ j. (c.of.ensures j).items) f.1 in
     let submitted : c.after-self-inside.result.requests ≡ i.submitted.requests ++ messages_of f.0 = c.after-self-inside.ensures ∙ ap (λ ds. i.submitted.requests ++ ds) took in
@@ -33,7 +33,7 @@ returns-clause-order g c =
     let i = c.self.inside in
     let xs : List Submission = i.batch.items in
     let ys : List Submission = c.submit_turn-outcome.new.batch.items in
-    let f : Fronts xs ys = turn_front c.submit_turn-outcome.result.owes c.args.seat.now.session c.args.now xs ys c.args.hub.now.kept c.submit_turn-outcome.new.self.kept c.submit_turn-outcome.ensures.submits in
+    let f : Fronts xs ys = turn_front c.submit_turn-outcome.result.owes c.args.seat.now.session c.args.now xs ys c.args.hub.now.guarded c.submit_turn-outcome.new.self.guarded c.submit_turn-outcome.ensures.submits in
     let step : BatchStep = record { before = c.of-before.result; left = c.of.result } in
     let took : submitted_in step ≡ messages_of f.0 = noted step xs ys f.0 (λ j. (c.of-before.ensures j).items) (λ j. (c.of.ensures j).items) f.1 in
     let view : record { most = i.framer.most; bytes = i.framer.bytes; submitted = i.submitted.requests; pending = pending_of xs; is_stopped = i.is_stopped } ≡ c.args.self.now = c.self.view_is in
@@ -52,8 +52,8 @@ returns-clause-submits g c =
     let s : ℕ = c.args.seat.now.session in
     let now : ℕ = c.args.now in
     let r : Result Bool EventRefusal = c.submit_turn-outcome.result.owes in
-    let before : Kept = c.args.hub.now.kept in
-    let after : Kept = c.submit_turn-outcome.new.self.kept in
+    let before : Guarded = c.args.hub.now.guarded in
+    let after : Guarded = c.submit_turn-outcome.new.self.guarded in
     let all : events_of s now xs ≡ events_at s now c.args.self.now.pending = events_are s now xs ∙ ap (λ (x : Inbox). events_at s now x.pending) c.self.view_is in
     subst (λ (es : List Event). Submits r s es (events_at s now (pending_of ys)) before after) all
     (subst (λ (es : List Event). Submits r s (events_of s now xs) es before after) (events_are s now ys) c.submit_turn-outcome.ensures.submits)

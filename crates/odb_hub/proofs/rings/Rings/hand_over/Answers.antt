@@ -24,9 +24,9 @@ loop-out-preserved c =
     let steps : c.loop-out.out-iterator.rest.items ≡ c.in-Some.out ∷ c.next.new.self.rest.items = search rules in
     let rest : List (ℕ × Text) = map sent_in c.next.new.self.rest.items in
     let all : List (ℕ × Text) = map sent_in c.loop-out.out-iterator.rest.items in
-    let put : (s : ℕ) → IsPutAt ((sent_in c.in-Some.out).0 == s) (sent_in c.in-Some.out).1 (get c.loop-out.self s) (get c.note.new.self s) =
-    subst (λ (m : Rings). (s : ℕ) → IsPutAt ((sent_in c.in-Some.out).0 == s) (sent_in c.in-Some.out).1 (get c.loop-out.self s) (get m s)) (sym c.note.ensures) c.put.ensures in
-    let one = hand_step c.loop-out.self c.note.new.self (sent_in c.in-Some.out) rest all (ap (map sent_in) steps) c.loop-out.invariant.0 put in
+    let put : (s : ℕ) → IsPutAt ((sent_in c.in-Some.out).0 == s) (sent_in c.in-Some.out).1 (get c.loop-out.self s) (get c.add_if_holding.new.self s) =
+    subst (λ (m : Rings). (s : ℕ) → IsPutAt ((sent_in c.in-Some.out).0 == s) (sent_in c.in-Some.out).1 (get c.loop-out.self s) (get m s)) (sym c.add_if_holding.ensures) c.put.ensures in
+    let one = hand_step c.loop-out.self c.add_if_holding.new.self (sent_in c.in-Some.out) rest all (ap (map sent_in) steps) c.loop-out.invariant.0 put in
     ((λ s. (one s).0), λ s o h. c.loop-out.invariant.1 s o ((one s).1 o h))
 
 pub returns : goal.returns

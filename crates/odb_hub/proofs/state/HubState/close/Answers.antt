@@ -2,7 +2,7 @@ use Rattle.std.proofs.Common.{rules, ◌≡◌, ℕ, [], ◌∷◌, ◌++◌, Ok
 use Rattle.odb_atoms.specs.FinMap.{remove}
 use Rattle.odb_service.specs.Run.{Event, closed}
 use Rattle.odb_service.specs.Server.{serve}
-use Rattle.odb_hub.specs.Kept.{AreUnused, Kept, Takes}
+use Rattle.odb_hub.specs.Guarded.{AreUnused, Guarded, Takes}
 use Rattle.odb_hub.specs.Rings.{Rings}
 use Rattle.odb_hub.proofs.Keeping.{closed_kept, counted_more, same_opened, unused_closed}
 use Rattle.odb_hub.proofs.state.HubState.close.Goals as goal
@@ -13,8 +13,8 @@ invariant_of-self-2 c =
     let s : ℕ = c.args.session in
     let e : Event = closed s in
     let rings : Rings = c.remove.new.self in
-    let k : Kept = record { server = i.core; base = i.journal.base; events = i.journal.events; rings = i.rings } in
-    let n : Kept = record { server = c.close.new.self; base = c.with-self-inside.result.base; events = c.with-self-inside.result.events; rings = rings } in
+    let k : Guarded = record { server = i.core; base = i.journal.base; events = i.journal.events; rings = i.rings } in
+    let n : Guarded = record { server = c.close.new.self; base = c.with-self-inside.result.base; events = c.with-self-inside.result.events; rings = rings } in
     let went : serve e i.core ≡ Ok (c.close.new.self, []) = search rules in
     let events : n.events ≡ k.events ++ e ∷ [] = search rules in
     let base : n.base ≡ k.base = search rules in

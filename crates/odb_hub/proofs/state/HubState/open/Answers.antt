@@ -2,7 +2,7 @@ use Rattle.std.proofs.Common.{rules, ◌≡◌, ℕ, ◌+◌, [], ◌∷◌, ◌
 use Rattle.odb_atoms.specs.FinMap.{insert, remove}
 use Rattle.odb_service.specs.Run.{Event, opened}
 use Rattle.odb_service.specs.Server.{Server, serve}
-use Rattle.odb_hub.specs.Kept.{AreUnused, IsKept, Kept, Takes}
+use Rattle.odb_hub.specs.Guarded.{AreUnused, IsGuarded, Guarded, Takes}
 use Rattle.odb_hub.specs.Represented.Mailbox.{name_of}
 use Rattle.odb_hub.specs.Rings.{Ring, Rings, fresh_ring}
 use Rattle.odb_hub.proofs.Keeping.{counted_more, opened_kept, same_opened, taken_out, unused_opened}
@@ -15,8 +15,8 @@ invariant_of-self-in-Ok c =
     let e : Event = opened s in
     let rings : Rings = c.add.new.self in
     let ring : Ring = fresh_ring (name_of c.in_ok-mailbox.mailbox) in
-    let k : Kept = record { server = i.core; base = i.journal.base; events = i.journal.events; rings = i.rings } in
-    let n : Kept = record { server = c.open.new.self; base = c.with-self-inside.result.base; events = c.with-self-inside.result.events; rings = rings } in
+    let k : Guarded = record { server = i.core; base = i.journal.base; events = i.journal.events; rings = i.rings } in
+    let n : Guarded = record { server = c.open.new.self; base = c.with-self-inside.result.base; events = c.with-self-inside.result.events; rings = rings } in
     let went : serve e i.core ≡ Ok (c.open.new.self, []) = search rules in
     let number : s ≡ i.core.opened = search rules in
     let events : n.events ≡ k.events ++ e ∷ [] = search rules in
@@ -36,7 +36,7 @@ invariant_of-self-in-Err-1 c =
     let added : c.add.new.self ≡ insert i.rings i.core.opened ring = search rules in
     let gone : c.remove.new.self ≡ remove c.add.new.self i.core.opened = search rules in
     let back : c.remove.new.self ≡ i.rings = gone ∙ ap (λ m. remove m i.core.opened) added ∙ taken_out i.rings i.core.opened ring (c.self.invariant.1 i.core.opened (omega arith)) in (
-      subst IsKept (λ j. let n : Kept = record { server = sym same j; base = i.journal.base; events = i.journal.events; rings = sym back j } in n) c.self.invariant.0,
+      subst IsGuarded (λ j. let n : Guarded = record { server = sym same j; base = i.journal.base; events = i.journal.events; rings = sym back j } in n) c.self.invariant.0,
       subst (λ (n : ℕ). AreUnused c.remove.new.self n) (sym (ap (λ (t : Server). t.opened) same)) (subst (λ (m : Rings). AreUnused m i.core.opened) (sym back) c.self.invariant.1),
       c.self.invariant.2,
     )
@@ -49,4 +49,4 @@ returns-in-Err-clause-err c =
     let added : c.add.new.self ≡ insert i.rings i.core.opened ring = search rules in
     let gone : c.remove.new.self ≡ remove c.add.new.self i.core.opened = search rules in
     let back : c.remove.new.self ≡ i.rings = gone ∙ ap (λ m. remove m i.core.opened) added ∙ taken_out i.rings i.core.opened ring (c.self.invariant.1 i.core.opened (omega arith)) in
-    (λ j. let n : Kept = record { server = same j; base = i.journal.base; events = i.journal.events; rings = back j } in n) ∙ c.self.view_is
+    (λ j. let n : Guarded = record { server = same j; base = i.journal.base; events = i.journal.events; rings = back j } in n) ∙ c.self.view_is

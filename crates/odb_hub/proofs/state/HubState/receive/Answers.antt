@@ -5,7 +5,7 @@ use Rattle.odb_schema.specs.Json.{Data}
 use Rattle.odb_wire.specs.Shown.{request_data}
 use Rattle.odb_service.specs.Run.{Event, submitted}
 use Rattle.odb_service.specs.Server.{serve}
-use Rattle.odb_hub.specs.Kept.{AreUnused, Kept, Takes}
+use Rattle.odb_hub.specs.Guarded.{AreUnused, Guarded, Takes}
 use Rattle.odb_hub.proofs.Keeping.{counted_more, same_opened, submitted_kept}
 use Rattle.odb_hub.proofs.state.HubState.receive.Goals as goal
 
@@ -15,8 +15,8 @@ invariant_of-self c =
     let d : Data = request_data c.args.submission.request in
     let fresh : List Uuid = map uuid_of c.args.submission.fresh.items in
     let e : Event = submitted c.args.session d fresh c.args.now in
-    let k : Kept = record { server = i.core; base = i.journal.base; events = i.journal.events; rings = i.rings } in
-    let n : Kept = record { server = c.submit.new.self; base = c.with-grown.result.base; events = c.with-grown.result.events; rings = i.rings } in
+    let k : Guarded = record { server = i.core; base = i.journal.base; events = i.journal.events; rings = i.rings } in
+    let n : Guarded = record { server = c.submit.new.self; base = c.with-grown.result.base; events = c.with-grown.result.events; rings = i.rings } in
     let went : serve e i.core ≡ Ok (c.submit.new.self, []) = search rules in
     let events : n.events ≡ k.events ++ e ∷ [] = search rules in
     let base : n.base ≡ k.base = search rules in

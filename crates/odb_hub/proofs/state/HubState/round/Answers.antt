@@ -5,7 +5,7 @@ use Rattle.std.proofs.lemmas.List.{length-map}
 use Rattle.odb_sessions.specs.Represented.Out.{sent_in}
 use Rattle.odb_service.specs.Run.{Event, round}
 use Rattle.odb_service.specs.Server.{serve}
-use Rattle.odb_hub.specs.Kept.{AreUnused, Kept, Takes}
+use Rattle.odb_hub.specs.Guarded.{AreUnused, Guarded, Takes}
 use Rattle.odb_hub.specs.GroupRounds.{TakesRound}
 use Rattle.odb_hub.specs.Rings.{Rings, Text, ready_among}
 use Rattle.odb_hub.proofs.Keeping.{counted_more, flushed_state, same_opened}
@@ -30,8 +30,8 @@ invariant_of-self-2 g c =
     let outs : List (ℕ × Text) = map sent_in c.in_ok-outs.outs.items in
     let all : List ℕ = ready_among owed c.args.from m in
     let e : Event = round (take c.args.most all) in
-    let k : Kept = record { server = i.core; base = i.journal.base; events = i.journal.events; rings = i.rings } in
-    let n : Kept = record { server = c.round_by.new.core; base = c.with-self-inside.result.base; events = c.with-self-inside.result.events; rings = c.hand_over.new.self } in
+    let k : Guarded = record { server = i.core; base = i.journal.base; events = i.journal.events; rings = i.rings } in
+    let n : Guarded = record { server = c.round_by.new.core; base = c.with-self-inside.result.base; events = c.with-self-inside.result.events; rings = c.hand_over.new.self } in
     let listed : c.as_slice-listed.result.now ≡ take c.args.most all = search rules in
     let noted : n.events ≡ k.events ++ round c.as_slice-listed.result.now ∷ [] = search rules in
     let went : serve (round c.as_slice-listed.result.now) i.core ≡ Ok (c.round_by.new.core, outs) = search rules in
@@ -53,8 +53,8 @@ returns-clause-ok g c =
     let outs : List (ℕ × Text) = map sent_in c.in_ok-outs.outs.items in
     let all : List ℕ = ready_among owed c.args.from m in
     let e : Event = round (take c.args.most all) in
-    let k : Kept = record { server = i.core; base = i.journal.base; events = i.journal.events; rings = i.rings } in
-    let n : Kept = record { server = c.round_by.new.core; base = c.with-self-inside.result.base; events = c.with-self-inside.result.events; rings = c.hand_over.new.self } in
+    let k : Guarded = record { server = i.core; base = i.journal.base; events = i.journal.events; rings = i.rings } in
+    let n : Guarded = record { server = c.round_by.new.core; base = c.with-self-inside.result.base; events = c.with-self-inside.result.events; rings = c.hand_over.new.self } in
     let listed : c.as_slice-listed.result.now ≡ take c.args.most all = search rules in
     let noted : n.events ≡ k.events ++ round c.as_slice-listed.result.now ∷ [] = search rules in
     let went : serve (round c.as_slice-listed.result.now) i.core ≡ Ok (c.round_by.new.core, outs) = search rules in
@@ -66,17 +66,17 @@ returns-clause-ok g c =
     let given : c.len-given.result ≡ length outs = items ∙ sym (length-map c.in_ok-outs.outs.items sent_in) in
     let next : c.in_ok-ready.ready.next ≡ slice_get all c.args.most = search rules in
     let t : TakesRound c.args.from c.args.most c.len-given.result c.in_ok-ready.ready.next k n = (owed, m, outs, c.owed.ensures, c.ready.ensures.flushed, takes, given, next, c.hand_over.ensures) in
-    subst (λ (old : Kept). TakesRound c.args.from c.args.most c.len-given.result c.in_ok-ready.ready.next old n) c.self.view_is t
+    subst (λ (old : Guarded). TakesRound c.args.from c.args.most c.len-given.result c.in_ok-ready.ready.next old n) c.self.view_is t
 
 pub invariant_of-self-in_err-outs : goal.invariant_of-self-in_err-outs
 invariant_of-self-in_err-outs g c =
     let i = c.self.inside in
-    let k : Kept = record { server = i.core; base = i.journal.base; events = i.journal.events; rings = i.rings } in
+    let k : Guarded = record { server = i.core; base = i.journal.base; events = i.journal.events; rings = i.rings } in
     let same : c.round_by.new.core ≡ i.core = search rules in
     flushed_state k c.ready.new.self c.round_by.new.core i.since_base same c.ready.ensures.flushed c.self.invariant.0 c.self.invariant.1 c.self.invariant.2
 
 pub invariant_of-self : goal.invariant_of-self
 invariant_of-self g c =
     let i = c.self.inside in
-    let k : Kept = record { server = i.core; base = i.journal.base; events = i.journal.events; rings = i.rings } in
+    let k : Guarded = record { server = i.core; base = i.journal.base; events = i.journal.events; rings = i.rings } in
     flushed_state k c.ready.new.self i.core i.since_base refl c.ready.ensures.flushed c.self.invariant.0 c.self.invariant.1 c.self.invariant.2

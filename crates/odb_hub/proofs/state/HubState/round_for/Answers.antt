@@ -4,7 +4,7 @@ use Rattle.odb_atoms.specs.FinMap.{get}
 use Rattle.odb_sessions.specs.Represented.Out.{sent_in}
 use Rattle.odb_service.specs.Run.{Event, round}
 use Rattle.odb_service.specs.Server.{serve}
-use Rattle.odb_hub.specs.Kept.{AreUnused, Kept, Takes}
+use Rattle.odb_hub.specs.Guarded.{AreUnused, Guarded, Takes}
 use Rattle.odb_hub.specs.Own.{FlushesOwn, TakesOwnRound}
 use Rattle.odb_hub.specs.Rings.{Rings, Text, is_free_at, texts_to}
 use Rattle.odb_hub.proofs.Keeping.{counted_more, flushed_state, same_opened, unused_grown}
@@ -27,8 +27,8 @@ invariant_of-self-2 g c =
     let e : Event = round (s ∷ []) in
     let m : Rings = c.ready_for.new.self in
     let outs : List (ℕ × Text) = map sent_in c.in_ok-outs.outs.items in
-    let k : Kept = record { server = i.core; base = i.journal.base; events = i.journal.events; rings = i.rings } in
-    let n : Kept = record { server = c.round_of.new.core; base = c.with-self-inside.result.base; events = c.with-self-inside.result.events; rings = c.hand_over.new.self } in
+    let k : Guarded = record { server = i.core; base = i.journal.base; events = i.journal.events; rings = i.rings } in
+    let n : Guarded = record { server = c.round_of.new.core; base = c.with-self-inside.result.base; events = c.with-self-inside.result.events; rings = c.hand_over.new.self } in
     let went : serve e i.core ≡ Ok (c.round_of.new.core, outs) = search rules in
     let free : is_free_at (get m s) ≡ true = search rules in
     let events : n.events ≡ k.events ++ e ∷ [] = search rules in
@@ -47,8 +47,8 @@ returns-clause-ok g c =
     let e : Event = round (s ∷ []) in
     let m : Rings = c.ready_for.new.self in
     let outs : List (ℕ × Text) = map sent_in c.in_ok-outs.outs.items in
-    let k : Kept = record { server = i.core; base = i.journal.base; events = i.journal.events; rings = i.rings } in
-    let n : Kept = record { server = c.round_of.new.core; base = c.with-self-inside.result.base; events = c.with-self-inside.result.events; rings = c.hand_over.new.self } in
+    let k : Guarded = record { server = i.core; base = i.journal.base; events = i.journal.events; rings = i.rings } in
+    let n : Guarded = record { server = c.round_of.new.core; base = c.with-self-inside.result.base; events = c.with-self-inside.result.events; rings = c.hand_over.new.self } in
     let went : serve e i.core ≡ Ok (c.round_of.new.core, outs) = search rules in
     let free : is_free_at (get m s) ≡ true = search rules in
     let events : n.events ≡ k.events ++ e ∷ [] = search rules in
@@ -57,27 +57,27 @@ returns-clause-ok g c =
     let t : TakesOwnRound s (length outs) k n = own_round s k n m outs c.ready_for.ensures.flushed c.ready_for.ensures.others free takes c.hand_over.ensures in
     let items : c.len-count.result ≡ length c.in_ok-outs.outs.items = search rules in
     let count : c.len-count.result ≡ length outs = items ∙ sym (length-map c.in_ok-outs.outs.items sent_in) in
-    subst (λ (old : Kept). TakesOwnRound s c.len-count.result old n) c.self.view_is (subst (λ q. TakesOwnRound s q k n) (sym count) t)
+    subst (λ (old : Guarded). TakesOwnRound s c.len-count.result old n) c.self.view_is (subst (λ q. TakesOwnRound s q k n) (sym count) t)
 
 pub returns-then-not-ready-clause-ok : goal.returns-then-not-ready-clause-ok
 returns-then-not-ready-clause-ok g c =
     let i = c.self.inside in
     let s : ℕ = c.args.session in
-    let k : Kept = record { server = i.core; base = i.journal.base; events = i.journal.events; rings = i.rings } in
-    let n : Kept = record { server = i.core; base = i.journal.base; events = i.journal.events; rings = c.ready_for.new.self } in
+    let k : Guarded = record { server = i.core; base = i.journal.base; events = i.journal.events; rings = i.rings } in
+    let n : Guarded = record { server = i.core; base = i.journal.base; events = i.journal.events; rings = c.ready_for.new.self } in
     let flushed : FlushesOwn s k n = (refl, refl, refl, c.ready_for.ensures.flushed s, c.ready_for.ensures.others) in
     let holds : is_free_at (get n.rings s) ≡ false = search rules in
-    subst (λ (old : Kept). TakesOwnRound s 0 old n) c.self.view_is (own_waits s k n flushed holds)
+    subst (λ (old : Guarded). TakesOwnRound s 0 old n) c.self.view_is (own_waits s k n flushed holds)
 
 pub invariant_of-self : goal.invariant_of-self
 invariant_of-self g c =
     let i = c.self.inside in
-    let k : Kept = record { server = i.core; base = i.journal.base; events = i.journal.events; rings = i.rings } in
+    let k : Guarded = record { server = i.core; base = i.journal.base; events = i.journal.events; rings = i.rings } in
     flushed_state k c.ready_for.new.self i.core i.since_base refl c.ready_for.ensures.flushed c.self.invariant.0 c.self.invariant.1 c.self.invariant.2
 
 pub invariant_of-self-in_err-outs : goal.invariant_of-self-in_err-outs
 invariant_of-self-in_err-outs g c =
     let i = c.self.inside in
-    let k : Kept = record { server = i.core; base = i.journal.base; events = i.journal.events; rings = i.rings } in
+    let k : Guarded = record { server = i.core; base = i.journal.base; events = i.journal.events; rings = i.rings } in
     let same : c.round_of.new.core ≡ i.core = search rules in
     flushed_state k c.ready_for.new.self c.round_of.new.core i.since_base same c.ready_for.ensures.flushed c.self.invariant.0 c.self.invariant.1 c.self.invariant.2

@@ -1,5 +1,5 @@
 use Rattle.std.proofs.Common.{rules, ◌≡◌, List, [], ◌∷◌, ◌++◌}
-use Rattle.odb_hub.specs.Kept.{Takes}
+use Rattle.odb_hub.specs.Guarded.{Takes}
 use Rattle.odb_hub.specs.Represented.Submission.{event_of}
 use Rattle.odb_hub.specs.declared.submission.Submission.{Submission}
 use Rattle.odb_hub.proofs.Batches.{took_turn}

@@ -13,7 +13,7 @@ returns-in-Some c =
     ap (λ (l : Locks). (model.drop_session l c.args.session).1) (sym c.self.view_is)
     ∙ ap (λ (r : Locks × List model.Notice). r.1) (drop_session-set c.self.inside.table c.args.session c.in-Some.names.now c.notices_of_release.ensures.ordered (λ q. c.in-Some.ensures q ∙ c.self.invariant c.args.session q))
     ∙ sym is)
-    c.notices_of_release.ensures.told
+    c.notices_of_release.ensures.notices
 
 pub returns-in-None : goal.returns-in-None
 returns-in-None c =

@@ -11,7 +11,7 @@ use Rattle.odb_tables.proofs.Ordered.{ranked_entries}
 use Rattle.odb_monitor.proofs.Listed.{listed_part}
 use Rattle.odb_monitor.proofs.Seen.{sorted_lines}
 use Rattle.odb_monitor.proofs.Soughts.{compares}
-use Rattle.odb_request.specs.Represented.Kind.{notation_of}
+use Rattle.odb_request.specs.Represented.Notation.{notation_of}
 use Rattle.odb_monitor.proofs.part.Part.list.Goals as goal
 
 pub returns : goal.returns
@@ -29,6 +29,6 @@ returns g c =
     let sorted = c.sort_by_several.new.sides.items in
     let lines : filter_map (line_at first i.told q) (map sides_in sorted) ≡ (changes_shown first (part_of q i.told t changes)).entries =
     sorted_lines first q i.told t changes es (map sides_in sorted) covers (IsPermutation-map sides_in c.in_ok-sides.sides.items sorted c.sort_by_several.ensures.permutation) (ranked_entries sides_in sorted c.sort_by_several.ensures.sorted) in
-    let is : c.new.result ≡ listing_in (notation_of c.args.kind) by sorted = c.new.ensures in
-    subst (λ (p : Part). listed_tokens c.new.result ≡ part_tokens (notation_of c.args.kind) first p) c.self.view_is
-    (ap listed_tokens is ∙ listed_part (notation_of c.args.kind) by sorted first i.told q (part_of q i.told t changes) same.first same.told same.request refl lines)
+    let is : c.new.result ≡ listing_in (notation_of c.args.notation) by sorted = c.new.ensures in
+    subst (λ (p : Part). listed_tokens c.new.result ≡ part_tokens (notation_of c.args.notation) first p) c.self.view_is
+    (ap listed_tokens is ∙ listed_part (notation_of c.args.notation) by sorted first i.told q (part_of q i.told t changes) same.first same.told same.request refl lines)

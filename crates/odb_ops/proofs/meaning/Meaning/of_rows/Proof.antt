@@ -26,7 +26,7 @@ use denote.Triple.Spec.{Meets, triple_of}
 use denote.Triple.Table.{entered}
 use denote.Triple.Walked.{says, Stays, stay_dropped, walk_of, ends_at, walk_Meets, Goes-dropped}
 use Rattle.odb_ops.specs.contracts.meaning.Meaning as Meaning
-use Rattle.odb_ops.specs.contracts.meaning.Rows as Rows
+use Rattle.odb_ops.specs.contracts.meaning.SelectedRows as SelectedRows
 use Rattle.odb_ops.specs.contracts.meaning.Meaning.of_rows as F
 use Rattle.odb_ops.specs.contracts.meaning.Meaning.of_rows.Key.{name as #self}
 use Rattle.odb_ops.specs.Represented.Results.{rows_of}
@@ -69,7 +69,7 @@ module _ {M : Type 1} {𝓤 : Ura M} (𝓛 : Logic 𝓤) (at_mem : Memory → SP
   meets : (𝓣 : Tables 𝓤 H) → Meets 𝓛 (F.ended).signature (WpFn 𝓤 H 𝓣.C 𝓣.Λ code.function) (closing 𝓛 F.ended held)
   meets 𝓣 =
       walk_Meets 𝓛 F.ended stayed (
-        Goes-dropped 𝓛 2 (RefOf (0 ∷ []) tt (plain (λ κs. Rows.the_row (named_lft 2 1 tt κs))) (λ _. tt)) yes (λ κs x f. refl),
+        Goes-dropped 𝓛 2 (RefOf (0 ∷ []) tt (plain (λ κs. SelectedRows.the_row (named_lft 2 1 tt κs))) (λ _. tt)) yes (λ κs x f. refl),
         tt,
       ) held
       (WpFn 𝓤 H 𝓣.C 𝓣.Λ code.function) (WpFn-mono 𝓤 H 𝓛.laws 𝓣 code.function) (walks 𝓣.C 𝓣.Λ)

@@ -2,8 +2,8 @@ use Rattle.std.proofs.Common.{List, Some, subst, sym, ap, ◌∙◌, ◌≡◌}
 use Rattle.odb_chain.specs.Chains.{Chains}
 use Rattle.odb_monitor.specs.Job.{Job}
 use Rattle.odb_sessions.specs.Composed.{asked_of}
-use Rattle.odb_round.specs.Foreseen.{AreAheadOf, Foreseen, held_ahead, marks_ahead}
-use Rattle.odb_sessions.specs.Held.{marks_in, watch_of}
+use Rattle.odb_round.specs.Foreseen.{AreAheadOf, Foreseen, marked_ahead, marks_ahead}
+use Rattle.odb_sessions.specs.Marked.{marks_in, watch_of}
 use Rattle.odb_round.specs.Jobs.{Keeps}
 use Rattle.odb_round.specs.OfSchema.{AreOfSchema}
 use Rattle.odb_round.specs.Planned.{first_due}
@@ -24,14 +24,14 @@ pub invariant_of-self : goal.invariant_of-self
 invariant_of-self c = (
   subst (λ (k : Chains). AreLive k (marks_ahead c.self.inside.monitors.items)) (sym c.first_reply.ensures.chains) c.self.invariant.0,
   subst (λ (g : Basis). AreAheadOf g.schema c.self.inside.monitors.items) (sym c.first_reply.ensures.basis) c.self.invariant.1,
-  subst (λ (g : Basis). AreKnownAs g.sessions c.self.inside.watch (held_ahead c.self.inside.monitors.items)) (sym c.first_reply.ensures.basis) c.self.invariant.2,
+  subst (λ (g : Basis). AreKnownAs g.sessions c.self.inside.watch (marked_ahead c.self.inside.monitors.items)) (sym c.first_reply.ensures.basis) c.self.invariant.2,
 )
 
 pub invariant_of-self-2 : goal.invariant_of-self-2
 invariant_of-self-2 c = (
   subst (λ (k : Chains). AreLive k (marks_ahead c.self.inside.monitors.items)) (sym c.first_reply.ensures.chains) c.self.invariant.0,
   subst (λ (g : Basis). AreAheadOf g.schema c.self.inside.monitors.items) (sym c.first_reply.ensures.basis) c.self.invariant.1,
-  subst (λ (g : Basis). AreKnownAs g.sessions c.self.inside.watch (held_ahead c.self.inside.monitors.items)) (sym c.first_reply.ensures.basis) c.self.invariant.2,
+  subst (λ (g : Basis). AreKnownAs g.sessions c.self.inside.watch (marked_ahead c.self.inside.monitors.items)) (sym c.first_reply.ensures.basis) c.self.invariant.2,
 )
 
 pub returns-clause-text : goal.returns-clause-text
@@ -50,8 +50,8 @@ returns-clause-marks c =
     subst (λ (f : Foreseen). IsServed f.likenesses c.first_reply.new.wanted.likenesses (λ h. h ≡ c.args.start.now.monitor) (place_coming c.composed.result)) c.self.view_is
     (subst (IsServed c.self.inside.wanted.likenesses c.first_reply.new.wanted.likenesses (λ h. h ≡ c.args.start.now.monitor)) (sym c.composed.ensures.place) c.in_ok-message.ensures.marks)
 
-pub returns-clause-held : goal.returns-clause-held
-returns-clause-held c = ap (λ (f : Foreseen). f.held) c.self.view_is
+pub returns-clause-marked : goal.returns-clause-marked
+returns-clause-marked c = ap (λ (f : Foreseen). f.marked) c.self.view_is
 
-pub returns-in_err-message-clause-held : goal.returns-in_err-message-clause-held
-returns-in_err-message-clause-held c = ap (λ (f : Foreseen). f.held) c.self.view_is
+pub returns-in_err-message-clause-marked : goal.returns-in_err-message-clause-marked
+returns-in_err-message-clause-marked c = ap (λ (f : Foreseen). f.marked) c.self.view_is

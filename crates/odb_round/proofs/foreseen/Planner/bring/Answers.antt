@@ -32,7 +32,7 @@ returns-clause-jobs c = c.pass.ensures.jobs
 pub returns-clause-marks : goal.returns-clause-marks
 returns-clause-marks c = λ s.
     let now = c.args.self.now in
-    subst (IsServed now.likenesses c.pass.new.self.likenesses (IsDueTo (due (served_by s) now.chains.db (item_in c.args.id.now c.args.under) now.monitors) now.held)) (sym c.composed.ensures.place) (c.in_ok-message.ensures.marks s)
+    subst (IsServed now.likenesses c.pass.new.self.likenesses (IsDueTo (due (served_by s) now.chains.db (item_in c.args.id.now c.args.under) now.monitors) now.marked)) (sym c.composed.ensures.place) (c.in_ok-message.ensures.marks s)
 
-pub returns-clause-held : goal.returns-clause-held
-returns-clause-held c = c.pass.ensures.held
+pub returns-clause-marked : goal.returns-clause-marked
+returns-clause-marked c = c.pass.ensures.marked

@@ -5,7 +5,7 @@ use Rattle.odb_service.specs.Server.{served_by}
 use Rattle.odb_service.specs.Session as machine
 use Rattle.odb_service.specs.Session.{leaves, shift, sync}
 use Rattle.odb_round.specs.Planned.{due}
-use Rattle.odb_sessions.specs.Represented.Queued.{filters_of, queued_of}
+use Rattle.odb_sessions.specs.Represented.Item.{filters_of, marked_item_of}
 use Rattle.odb_sessions.specs.declared.item.Item.{Item}
 use Rattle.odb_sessions.specs.declared.item.Item.TheVariants as item
 use Rattle.odb_round.specs.Sending.{due_sending}
@@ -13,7 +13,7 @@ use Rattle.odb_round.proofs.Leading.{seen_item}
 use Rattle.odb_round.proofs.Places.{keeps_itself}
 use Rattle.odb_round.proofs.foreseen.Planner.give.Goals as goal
 use Rattle.odb_round.specs.Represented.Served.{place_coming}
-use Rattle.odb_round.specs.ByMarks.{IsDueTo, held_due}
+use Rattle.odb_round.specs.ByMarks.{IsDueTo, monitors_due}
 use Rattle.odb_round.proofs.Served.{served_beside, served_so, start_to}
 use Rattle.odb_sessions.specs.Book.{revision_at}
 
@@ -81,8 +81,8 @@ returns-in-Start-clause-marks c =
     let is : c.args.item.now ≡ item.Start c.in-Start.start = search rules in
     IfOk-weaker c.begin.result _ _
     (λ coming e. λ s. served_so now.likenesses c.begin.new.self.likenesses (λ h. h ≡ c.in-Start.start.monitor)
-    (IsDueTo (due (served_by s) now.chains.db (seen_item c.args.item.now) now.monitors) (now.held ++ held_due (queued_of c.args.item.now))) (place_coming coming)
-    (λ h same. start_to s now.chains.db now.monitors now.held c.args.item.now c.in-Start.start h is same) e)
+    (IsDueTo (due (served_by s) now.chains.db (seen_item c.args.item.now) now.monitors) (now.marked ++ monitors_due (marked_item_of c.args.item.now))) (place_coming coming)
+    (λ h same. start_to s now.chains.db now.monitors now.marked c.args.item.now c.in-Start.start h is same) e)
     c.begin.ensures.marks
 
 pub returns-in-Shift-clause-marks : goal.returns-in-Shift-clause-marks
@@ -92,7 +92,7 @@ returns-in-Shift-clause-marks c =
     let id : c.deref-in-Shift.result.now ≡ arc_value c.in-Shift.shift.id = search rules in
     let same : shift c.deref-in-Shift.result.now (filters_of c.in-Shift.shift.changes) ≡ seen_item c.args.item.now = (λ i. shift (id i) (filters_of c.in-Shift.shift.changes)) ∙ ap seen_item (sym is) in
     IfOk-weaker c.bring-in-Shift.result _ _
-    (λ coming e. λ s. served_beside now.likenesses c.bring-in-Shift.new.self.likenesses _ _ now.held (held_due (queued_of c.args.item.now)) (place_coming coming) (ap (λ (j : machine.Item). due (served_by s) now.chains.db j now.monitors) same) (e s))
+    (λ coming e. λ s. served_beside now.likenesses c.bring-in-Shift.new.self.likenesses _ _ now.marked (monitors_due (marked_item_of c.args.item.now)) (place_coming coming) (ap (λ (j : machine.Item). due (served_by s) now.chains.db j now.monitors) same) (e s))
     c.bring-in-Shift.ensures.marks
 
 pub returns-in-Sync-clause-marks : goal.returns-in-Sync-clause-marks
@@ -102,5 +102,5 @@ returns-in-Sync-clause-marks c =
     let id : c.deref.result.now ≡ arc_value c.in-Sync.id = search rules in
     let same : sync c.deref.result.now ≡ seen_item c.args.item.now = ap sync id ∙ ap seen_item (sym is) in
     IfOk-weaker c.bring.result _ _
-    (λ coming e. λ s. served_beside now.likenesses c.bring.new.self.likenesses _ _ now.held (held_due (queued_of c.args.item.now)) (place_coming coming) (ap (λ (j : machine.Item). due (served_by s) now.chains.db j now.monitors) same) (e s))
+    (λ coming e. λ s. served_beside now.likenesses c.bring.new.self.likenesses _ _ now.marked (monitors_due (marked_item_of c.args.item.now)) (place_coming coming) (ap (λ (j : machine.Item). due (served_by s) now.chains.db j now.monitors) same) (e s))
     c.bring.ensures.marks

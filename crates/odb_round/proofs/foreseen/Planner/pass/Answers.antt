@@ -3,7 +3,7 @@ use Rattle.odb_chain.specs.Chains.{Chains}
 use Rattle.odb_monitor.specs.Job.{Job}
 use Rattle.odb_service.specs.Server.{served_by}
 use Rattle.odb_service.specs.Session.{leaves}
-use Rattle.odb_round.specs.Foreseen.{AreAheadOf, Foreseen, held_ahead, marks_ahead, seen_ahead}
+use Rattle.odb_round.specs.Foreseen.{AreAheadOf, Foreseen, marked_ahead, marks_ahead, seen_ahead}
 use Rattle.odb_round.specs.Jobs.{Keeps}
 use Rattle.odb_round.specs.Planned.{due}
 use Rattle.odb_round.specs.Represented.Sending.{Tells}
@@ -21,7 +21,7 @@ pub invariant_of-self : goal.invariant_of-self
 invariant_of-self c = (
   subst (λ (k : Chains). AreLive k (marks_ahead c.pass.new.monitors.items)) (sym c.pass.ensures.chains) c.pass.ensures.live,
   subst (λ (g : Basis). AreAheadOf g.schema c.pass.new.monitors.items) (sym c.pass.ensures.basis) c.pass.ensures.of,
-  subst (λ (g : Basis). AreKnownAs g.sessions c.self.inside.watch (held_ahead c.pass.new.monitors.items)) (sym c.pass.ensures.basis) (subst (AreKnownAs c.self.inside.wanted.basis.sessions c.self.inside.watch) (sym c.pass.ensures.held) c.self.invariant.2),
+  subst (λ (g : Basis). AreKnownAs g.sessions c.self.inside.watch (marked_ahead c.pass.new.monitors.items)) (sym c.pass.ensures.basis) (subst (AreKnownAs c.self.inside.wanted.basis.sessions c.self.inside.watch) (sym c.pass.ensures.marked) c.self.invariant.2),
 )
 
 pub returns-clause-text : goal.returns-clause-text
@@ -48,8 +48,8 @@ returns-clause-jobs c = subst (λ (js : List Job). Keeps js c.pass.new.wanted.jo
 pub returns-clause-marks : goal.returns-clause-marks
 returns-clause-marks c =
     subst (λ (f : Foreseen). IfOk c.pass.result (λ message. (s : Schema) → IsServed f.likenesses c.pass.new.wanted.likenesses
-    (IsDueTo (due (served_by s) f.chains.db (item_in c.args.id.now c.args.under) f.monitors) f.held) (place_told message)))
+    (IsDueTo (due (served_by s) f.chains.db (item_in c.args.id.now c.args.under) f.monitors) f.marked) (place_told message)))
     c.self.view_is c.pass.ensures.marks
 
-pub returns-clause-held : goal.returns-clause-held
-returns-clause-held c = c.pass.ensures.held ∙ ap (λ (f : Foreseen). f.held) c.self.view_is
+pub returns-clause-marked : goal.returns-clause-marked
+returns-clause-marked c = c.pass.ensures.marked ∙ ap (λ (f : Foreseen). f.marked) c.self.view_is

@@ -2,7 +2,7 @@ use Rattle.std.proofs.Common.{rules, ◌≡◌, true, List, is_some, sym, ap, �
 use Rattle.std.proofs.lemmas.Result.{IfOk-weaker}
 use Rattle.odb_monitor.specs.Job.{Job, Part}
 use Rattle.odb_sessions.specs.Composed.{asked_of, first_job, first_part, own_job}
-use Rattle.odb_sessions.specs.Held.{Held, Watched}
+use Rattle.odb_sessions.specs.Marked.{MarkedMonitor, Watched}
 use Rattle.odb_sessions.specs.Represented.Job.{filters_by, job_in}
 use Rattle.odb_sessions.specs.Represented.Under.{filters_in}
 use Rattle.odb_sessions.specs.declared.way.Way.TheVariants as way
@@ -12,13 +12,13 @@ use Rattle.odb_tables.specs.Database.{Db}
 use Rattle.odb_round.proofs.job.RoundJob.differences.Goals as goal
 
 -- a first reply is of what is asked, whatever the client was told
-first_is : (db : Db) (x : Held) → own_job true db x ≡ first_job db x.notation (asked_of x.tables)
+first_is : (db : Db) (x : MarkedMonitor) → own_job true db x ≡ first_job db x.notation (asked_of x.tables)
 first_is db x = ap (λ (ps : List Part). let j : Job = record { notation = x.notation; first = true; reply = true; parts = ps } in j) (sym (map-map (λ (w : Watched). w.request) (first_part db) x.tables))
 
 pub returns-in-First : goal.returns-in-First
 returns-in-First c =
     let db = c.self.inside.chains.now.db in
-    let x : Held = c.self.inside.monitor.now in
+    let x : MarkedMonitor = c.self.inside.monitor.now in
     let is : c.self.inside.way ≡ way.First = search rules in
     IfOk-weaker c.own_job.result _ _ (λ job e. e ∙ first_is db x ∙ ap (job_in db x) (sym is) ∙ c.self.view_is) c.own_job.ensures
 
@@ -29,14 +29,14 @@ returns-in-Asked c =
 
 pub changed_job-requires-clause-requests : goal.changed_job-requires-clause-requests
 changed_job-requires-clause-requests c =
-    let x : Held = c.self.inside.monitor.now in
+    let x : MarkedMonitor = c.self.inside.monitor.now in
     let slice : c.as_slice-requests.result.now ≡ c.self.inside.requests.items = search rules in
     let some : is_some (filters_by c.self.inside.way) ≡ true = search rules in
     refiltered c.self.inside.way x.tables c.as_slice-requests.result.now some (slice ∙ c.self.invariant.1)
 
 pub returns-in-Changed : goal.returns-in-Changed
 returns-in-Changed c =
-    let x : Held = c.self.inside.monitor.now in
+    let x : MarkedMonitor = c.self.inside.monitor.now in
     let slice : c.as_slice-requests.result.now ≡ c.self.inside.requests.items = search rules in
     let changed : is_changed c.self.inside.way ≡ true = search rules in
     IfOk-weaker c.changed_job.result _ _
@@ -45,14 +45,14 @@ returns-in-Changed c =
 
 pub again_job-requires-clause-requests : goal.again_job-requires-clause-requests
 again_job-requires-clause-requests c =
-    let x : Held = c.self.inside.monitor.now in
+    let x : MarkedMonitor = c.self.inside.monitor.now in
     let slice : c.as_slice-requests.result.now ≡ c.self.inside.requests.items = search rules in
     let some : is_some (filters_by c.self.inside.way) ≡ true = search rules in
     refiltered c.self.inside.way x.tables c.as_slice-requests.result.now some (slice ∙ c.self.invariant.1)
 
 pub returns-in-Again : goal.returns-in-Again
 returns-in-Again c =
-    let x : Held = c.self.inside.monitor.now in
+    let x : MarkedMonitor = c.self.inside.monitor.now in
     let slice : c.as_slice-requests.result.now ≡ c.self.inside.requests.items = search rules in
     let again : is_again c.self.inside.way ≡ true = search rules in
     let told : filters_in c.in-Again.told ≡ told_by c.self.inside.way = search rules in
@@ -63,6 +63,6 @@ returns-in-Again c =
 pub returns-in-Since : goal.returns-in-Since
 returns-in-Since c =
     let db = c.self.inside.chains.now.db in
-    let x : Held = c.self.inside.monitor.now in
+    let x : MarkedMonitor = c.self.inside.monitor.now in
     let is : c.self.inside.way ≡ way.Since c.in-Since.recent c.in-Since.ago = search rules in
     IfOk-weaker c.resumed_job.result (λ (job : Job). job ≡ job_in db x (way.Since c.in-Since.recent c.in-Since.ago)) _ (λ job e. e ∙ ap (job_in db x) (sym is) ∙ c.self.view_is) c.resumed_job.ensures

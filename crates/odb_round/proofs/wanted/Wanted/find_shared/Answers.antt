@@ -4,7 +4,7 @@ use Rattle.odb_monitor.specs.Job.{Job}
 use Rattle.odb_recent.specs.Recent.{Recent}
 use Rattle.odb_sessions.specs.Alike.{Likeness}
 use Rattle.odb_sessions.specs.Composed.{owed_job}
-use Rattle.odb_sessions.specs.Held.{Held, marks_in}
+use Rattle.odb_sessions.specs.Marked.{MarkedMonitor, marks_in}
 use Rattle.odb_round.specs.Jobs.{IsFor, Wanted, if_sent}
 use Rattle.odb_round.specs.Represented.Served.{IsServed}
 use Rattle.odb_sessions.specs.Tied.{AreLive}
@@ -21,7 +21,7 @@ returns-in-Some-clause-place c =
     let k : Chains = c.self.inside.chains.now in
     let r : Recent = c.self.inside.recent.now in
     let g : Basis = c.self.inside.basis in
-    let x : Held = c.args.monitor.now in
+    let x : MarkedMonitor = c.args.monitor.now in
     let js : List Job = c.self.inside.listed.jobs.items in
     let live : AreLive k (marks_in x) = subst (λ (w : Wanted). AreLive w.chains (marks_in x)) (sym c.self.view_is) c.requires.live in
     let asked : IsKnownAs g.sessions c.args.watch x = subst (λ (w : Wanted). IsKnownAs w.basis.sessions c.args.watch x) (sym c.self.view_is) c.requires.known in
@@ -35,7 +35,7 @@ returns-in-Some-clause-place c =
 pub returns-in-Some-clause-marks : goal.returns-in-Some-clause-marks
 returns-in-Some-clause-marks c =
     let g : Basis = c.self.inside.basis in
-    let x : Held = c.args.monitor.now in
+    let x : MarkedMonitor = c.args.monitor.now in
     let ls : List Likeness = c.self.inside.listed.askings.items in
     let asked : IsKnownAs g.sessions c.args.watch x = subst (λ (w : Wanted). IsKnownAs w.basis.sessions c.args.watch x) (sym c.self.view_is) c.requires.known in
     let known : IsKnownAs g.sessions (Some c.in-Some.watch) x = subst (λ o. IsKnownAs g.sessions o x) c.in-Some.is asked in

@@ -4,7 +4,7 @@ use Rattle.std.proofs.lemmas.Option.{none-some, same_Some}
 use Rattle.odb_monitor.specs.Job.{Job}
 use Rattle.odb_recent.specs.Recent.{Recent}
 use Rattle.odb_sessions.specs.Composed.{asked_of, resumed_job}
-use Rattle.odb_sessions.specs.Held.{Held}
+use Rattle.odb_sessions.specs.Marked.{MarkedMonitor}
 use Rattle.odb_round.specs.Jobs.{Wanted, certainly}
 use Rattle.odb_sessions.specs.Represented.Job.{job_in}
 use Rattle.odb_sessions.specs.declared.way.Way.TheVariants as way
@@ -23,7 +23,7 @@ unreachable-requires c =
 
 pub returns-clause-place : goal.returns-clause-place
 returns-clause-place c = λ all kept.
-    let x : Held = c.args.monitor.now in
+    let x : MarkedMonitor = c.args.monitor.now in
     let db = c.args.self.now.chains.db in
     let job : Job = job_in db x (way.Since c.self.inside.recent c.args.ago) in
     same_Some (slice_get all c.in-Some.place) (certainly job) (sym (ap (option_map (slice_get all)) c.in-Some.is) ∙ c.in_ok-place.ensures.place all kept)

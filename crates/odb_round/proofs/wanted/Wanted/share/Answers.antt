@@ -4,7 +4,7 @@ use Rattle.odb_monitor.specs.Job.{Job}
 use Rattle.odb_recent.specs.Recent.{Recent}
 use Rattle.odb_sessions.specs.Alike.{Likeness}
 use Rattle.odb_sessions.specs.Composed.{owed_job}
-use Rattle.odb_sessions.specs.Held.{Held, marks_in}
+use Rattle.odb_sessions.specs.Marked.{MarkedMonitor, marks_in}
 use Rattle.odb_round.specs.Jobs.{IsFor, Shared, Wanted, if_sent}
 use Rattle.odb_sessions.specs.Represented.Alike.{likeness_in}
 use Rattle.odb_round.specs.Represented.Decided.{IsPlaceOf, IsSharedIn}
@@ -21,7 +21,7 @@ invariant_of-self c =
     let k : Chains = c.self.inside.chains.now in
     let r : Recent = c.self.inside.recent.now in
     let g : Basis = c.self.inside.basis in
-    let x : Held = c.args.monitor.now in
+    let x : MarkedMonitor = c.args.monitor.now in
     let js : List Job = c.self.inside.listed.jobs.items in
     let live : AreLive k (marks_in x) = subst (λ (w : Wanted). AreLive w.chains (marks_in x)) (sym c.self.view_is) c.requires.live in
     let asked : IsKnownAs g.sessions c.args.watch x = subst (λ (w : Wanted). IsKnownAs w.basis.sessions c.args.watch x) (sym c.self.view_is) c.requires.known in
@@ -35,6 +35,6 @@ invariant_of-self c =
     let at : IsAtPlace ls c.new.result.likeness c.new.result.place = subst (λ (e : Shared). IsAtPlace ls e.likeness e.place) (sym c.new.ensures) own_place in (
       c.self.invariant.0,
       c.self.invariant.1,
-      (c.self.invariant.2.0, c.keep.ensures.shared g.sessions own c.self.invariant.2.1, c.keep.ensures.places k r.undos js its c.self.invariant.2.2),
-      c.keep.ensures.placed ls at c.self.invariant.3,
+      (c.self.invariant.2.0, c.add.ensures.shared g.sessions own c.self.invariant.2.1, c.add.ensures.places k r.undos js its c.self.invariant.2.2),
+      c.add.ensures.placed ls at c.self.invariant.3,
     )

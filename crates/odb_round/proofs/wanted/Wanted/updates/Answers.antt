@@ -1,7 +1,7 @@
 use Rattle.std.proofs.Common.{◌≡◌, sym, subst}
 use Rattle.odb_chain.specs.Chains.{Chains}
 use Rattle.odb_sessions.specs.Composed.{owed_job}
-use Rattle.odb_sessions.specs.Held.{marks_in}
+use Rattle.odb_sessions.specs.Marked.{marks_in}
 use Rattle.odb_round.specs.Jobs.{IsFor, Keeps, Wanted, if_sent}
 use Rattle.odb_sessions.specs.Tied.{AreLive}
 use Rattle.odb_round.specs.Known.{Basis, IsKnownAs}

@@ -10,7 +10,7 @@ use Rattle.odb_sessions.specs.Alike.{Likeness}
 use Rattle.odb_sessions.specs.Composed.{asked_of}
 use Rattle.odb_round.specs.OfSchema.{AreOfSchema}
 use Rattle.odb_sessions.specs.FirstTexts.{FirstText, IsOfNow}
-use Rattle.odb_sessions.specs.Held.{Held, marks_in}
+use Rattle.odb_sessions.specs.Marked.{MarkedMonitor, marks_in}
 use Rattle.odb_round.specs.Jobs.{Decision, IsFor, Keeps, Wanted, if_sent}
 use Rattle.odb_round.specs.Represented.Decided.{IsFoundIn, AreDecided, AreDecisionsOf, ArePlaced, AreShared, AreSharedPlaced, Differs, IsPlanned, Puts, bucket_at}
 use Rattle.odb_sessions.specs.Represented.Alike.{likeness_in}
@@ -35,50 +35,25 @@ returns-in-Some-clause-place c =
     let d : Decided = c.self.inside.decided in
     let decided : AreDecided c.args.self.now.chains c.args.self.now.recent.undos c.args.self.now.jobs d = subst (λ (w : Wanted). AreDecided w.chains w.recent.undos w.jobs d) c.self.view_is c.self.invariant.0.0 in
     let all : AreDecisionsOf c.args.self.now.basis.schema d = subst (λ (w : Wanted). AreDecisionsOf w.basis.schema d) c.self.view_is c.self.invariant.1 in
-    place_again c.args.self.now d c.args.monitor.now c.args.way c.in-Some.place c.requires.live c.requires.of c.requires.found decided all c.in-Some.ensures
+    place_again c.args.self.now d c.args.monitor.now c.args.way c.in-Some.place c.requires.live c.requires.of c.requires.found decided all c.in-Some.ensures.some
 
 pub returns-in-Some-clause-likeness : goal.returns-in-Some-clause-likeness
 returns-in-Some-clause-likeness c =
     let d : Decided = c.self.inside.decided in
     let at : ArePlaced c.args.self.now.likenesses d = subst (λ (w : Wanted). ArePlaced w.likenesses d) c.self.view_is c.self.invariant.0.6 in
     let all : AreDecisionsOf c.args.self.now.basis.schema d = subst (λ (w : Wanted). AreDecisionsOf w.basis.schema d) c.self.view_is c.self.invariant.1 in
-    likeness_again c.args.self.now d c.args.monitor.now c.args.way c.in-Some.place c.requires.of at all c.in-Some.ensures
+    likeness_again c.args.self.now d c.args.monitor.now c.args.way c.in-Some.place c.requires.of at all c.in-Some.ensures.some
 
 pub returns-in-Some-clause-marks : goal.returns-in-Some-clause-marks
 returns-in-Some-clause-marks c =
     let d : Decided = c.self.inside.decided in
     let at : ArePlaced c.args.self.now.likenesses d = subst (λ (w : Wanted). ArePlaced w.likenesses d) c.self.view_is c.self.invariant.0.6 in
     let all : AreDecisionsOf c.args.self.now.basis.schema d = subst (λ (w : Wanted). AreDecisionsOf w.basis.schema d) c.self.view_is c.self.invariant.1 in
-    let here : IsAtPlace c.args.self.now.likenesses (likeness_in c.args.monitor.now c.args.way) c.in-Some.place = likeness_again c.args.self.now d c.args.monitor.now c.args.way c.in-Some.place c.requires.of at all c.in-Some.ensures in
+    let here : IsAtPlace c.args.self.now.likenesses (likeness_in c.args.monitor.now c.args.way) c.in-Some.place = likeness_again c.args.self.now d c.args.monitor.now c.args.way c.in-Some.place c.requires.of at all c.in-Some.ensures.some in
     served_at c.args.self.now.likenesses c.args.self.now.likenesses c.args.monitor.now c.args.way c.in-Some.place (keeps_itself c.args.self.now.likenesses) here
 
 pub returns-in-Some-clause-jobs : goal.returns-in-Some-clause-jobs
 returns-in-Some-clause-jobs c = keeps_itself c.args.self.now.jobs
-
-pub returns-in-Some-find-clause-place : goal.returns-in-Some-find-clause-place
-returns-in-Some-find-clause-place c =
-    let d : Decided = c.self.inside.decided in
-    let decided : AreDecided c.args.self.now.chains c.args.self.now.recent.undos c.args.self.now.jobs d = subst (λ (w : Wanted). AreDecided w.chains w.recent.undos w.jobs d) c.self.view_is c.self.invariant.0.0 in
-    let all : AreDecisionsOf c.args.self.now.basis.schema d = subst (λ (w : Wanted). AreDecisionsOf w.basis.schema d) c.self.view_is c.self.invariant.1 in
-    place_again c.args.self.now d c.args.monitor.now c.args.way c.in-Some-find.place c.requires.live c.requires.of c.requires.found decided all c.in-Some-find.ensures.some
-
-pub returns-in-Some-find-clause-likeness : goal.returns-in-Some-find-clause-likeness
-returns-in-Some-find-clause-likeness c =
-    let d : Decided = c.self.inside.decided in
-    let at : ArePlaced c.args.self.now.likenesses d = subst (λ (w : Wanted). ArePlaced w.likenesses d) c.self.view_is c.self.invariant.0.6 in
-    let all : AreDecisionsOf c.args.self.now.basis.schema d = subst (λ (w : Wanted). AreDecisionsOf w.basis.schema d) c.self.view_is c.self.invariant.1 in
-    likeness_again c.args.self.now d c.args.monitor.now c.args.way c.in-Some-find.place c.requires.of at all c.in-Some-find.ensures.some
-
-pub returns-in-Some-find-clause-marks : goal.returns-in-Some-find-clause-marks
-returns-in-Some-find-clause-marks c =
-    let d : Decided = c.self.inside.decided in
-    let at : ArePlaced c.args.self.now.likenesses d = subst (λ (w : Wanted). ArePlaced w.likenesses d) c.self.view_is c.self.invariant.0.6 in
-    let all : AreDecisionsOf c.args.self.now.basis.schema d = subst (λ (w : Wanted). AreDecisionsOf w.basis.schema d) c.self.view_is c.self.invariant.1 in
-    let here : IsAtPlace c.args.self.now.likenesses (likeness_in c.args.monitor.now c.args.way) c.in-Some-find.place = likeness_again c.args.self.now d c.args.monitor.now c.args.way c.in-Some-find.place c.requires.of at all c.in-Some-find.ensures.some in
-    served_at c.args.self.now.likenesses c.args.self.now.likenesses c.args.monitor.now c.args.way c.in-Some-find.place (keeps_itself c.args.self.now.likenesses) here
-
-pub returns-in-Some-find-clause-jobs : goal.returns-in-Some-find-clause-jobs
-returns-in-Some-find-clause-jobs c = keeps_itself c.args.self.now.jobs
 
 pub invariant_of-self : goal.invariant_of-self
 invariant_of-self c =
@@ -99,7 +74,7 @@ invariant_of-self-then-not-is_sent c =
     let js : List Job = c.self.inside.listed.jobs.items in
     let ls : List Likeness = c.self.inside.listed.askings.items in
     let d : Decided = c.self.inside.decided in
-    let x : Held = c.args.monitor.now in
+    let x : MarkedMonitor = c.args.monitor.now in
     let l : Likeness = likeness_in x c.args.way in
     let live : AreLive k (marks_in x) = subst (λ (w : Wanted). AreLive w.chains (marks_in x)) (sym c.self.view_is) c.requires.live in
     let own : IsFoundIn r c.args.way = subst (λ (w : Wanted). IsFoundIn w.recent c.args.way) (sym c.self.view_is) c.requires.found in
@@ -133,17 +108,17 @@ invariant_of-self-2 c =
     let js : List Job = c.self.inside.listed.jobs.items in
     let ls : List Likeness = c.self.inside.listed.askings.items in
     let d : Decided = c.self.inside.decided in
-    let x : Held = c.args.monitor.now in
+    let x : MarkedMonitor = c.args.monitor.now in
     let l : Likeness = likeness_in x c.args.way in
     let live : AreLive k (marks_in x) = subst (λ (w : Wanted). AreLive w.chains (marks_in x)) (sym c.self.view_is) c.requires.live in
     let own : IsFoundIn r c.args.way = subst (λ (w : Wanted). IsFoundIn w.recent c.args.way) (sym c.self.view_is) c.requires.found in
-    let job : Job = c.settle.new.self in
-    let whole : job ≡ job_in k.db x c.args.way = c.settle.ensures.job ∙ c.in_ok-job.ensures ∙ sym (ap (λ (w : Wanted). job_in w.chains.db x c.args.way) c.self.view_is) in
+    let job : Job = c.decide.new.self in
+    let whole : job ≡ job_in k.db x c.args.way = c.decide.ensures.job ∙ c.in_ok-job.ensures ∙ sym (ap (λ (w : Wanted). job_in w.chains.db x c.args.way) c.self.view_is) in
     let is : job ≡ job_like (contents k) us k.db l = whole ∙ like_job k r x c.args.way own live in
     let now : IsOfNow k.db job = subst (IsOfNow k.db) (sym whole) (of_now k.db x c.args.way) in
     let had : is_some (updates_of c.in_ok-job.job) ≡ true = search rules in
-    let sent : is_some (updates_of job) ≡ true = ap (λ (j : Job). is_some (updates_of j)) c.settle.ensures.job ∙ had in
-    let fresh : All (Differs l) (bucket_at d (digest l)) = subst (λ n. All (Differs l) (bucket_at d n)) c.digest_of-digest.ensures (c.in_default-find.ensures.none refl) in
+    let sent : is_some (updates_of job) ≡ true = ap (λ (j : Job). is_some (updates_of j)) c.decide.ensures.job ∙ had in
+    let fresh : All (Differs l) (bucket_at d (digest l)) = subst (λ n. All (Differs l) (bucket_at d n)) c.digest_of-digest.ensures (c.in_default.ensures.none refl) in
     let more : IsPlanned k us fs (js ++ job ∷ []) (ls ++ l ∷ []) c.add.new.decided = more_planned k us fs js ls d c.add.new.decided l job (is, of_requests x c.args.way, of_commits r x c.args.way own) now sent fresh c.in_ok-place.ensures.decided c.self.invariant.0 in
     let planned : IsPlanned k us fs c.add.new.self.jobs.items c.add.new.self.askings.items c.add.new.decided =
     subst (λ (bs : List Job). IsPlanned k us fs bs c.add.new.self.askings.items c.add.new.decided) (sym c.in_ok-place.ensures.jobs)
@@ -167,17 +142,17 @@ returns-then-not-is_sent-clause-jobs c = keeps_same c.args.self.now.jobs c.self.
 pub returns-clause-place : goal.returns-clause-place
 returns-clause-place c =
     let new : List Job = c.add.new.self.jobs.items in
-    let job : Job = c.settle.new.self in
+    let job : Job = c.decide.new.self in
     let had : is_some (updates_of c.in_ok-job.job) ≡ true = search rules in
-    let sent : is_some (updates_of job) ≡ true = ap (λ (j : Job). is_some (updates_of j)) c.settle.ensures.job ∙ had in
-    let is : job ≡ job_in c.args.self.now.chains.db c.args.monitor.now c.args.way = c.settle.ensures.job ∙ c.in_ok-job.ensures in
+    let sent : is_some (updates_of job) ≡ true = ap (λ (j : Job). is_some (updates_of j)) c.decide.ensures.job ∙ had in
+    let is : job ≡ job_in c.args.self.now.chains.db c.args.monitor.now c.args.way = c.decide.ensures.job ∙ c.in_ok-job.ensures in
     subst (λ (j : Job). IsFor new (if_sent j) (Some c.in_ok-place.place)) is
     (some_for new job c.in_ok-place.place (added_at c.self.inside.listed.jobs.items new job c.in_ok-place.place c.in_ok-place.ensures.jobs c.in_ok-place.ensures.place) sent)
 
 pub returns-clause-jobs : goal.returns-clause-jobs
 returns-clause-jobs c =
     let new : List Job = c.add.new.self.jobs.items in
-    subst (λ (bs : List Job). Keeps bs new) (ap (λ (w : Wanted). w.jobs) c.self.view_is) (keeps_added c.self.inside.listed.jobs.items new c.settle.new.self c.in_ok-place.ensures.jobs)
+    subst (λ (bs : List Job). Keeps bs new) (ap (λ (w : Wanted). w.jobs) c.self.view_is) (keeps_added c.self.inside.listed.jobs.items new c.decide.new.self c.in_ok-place.ensures.jobs)
 
 pub returns-then-not-is_sent-clause-likeness : goal.returns-then-not-is_sent-clause-likeness
 returns-then-not-is_sent-clause-likeness c = tt
@@ -195,7 +170,7 @@ returns-clause-likeness c =
 
 pub returns-clause-marks : goal.returns-clause-marks
 returns-clause-marks c =
-    let x : Held = c.args.monitor.now in
+    let x : MarkedMonitor = c.args.monitor.now in
     let l : Likeness = likeness_in x c.args.way in
     let js : List Job = c.self.inside.listed.jobs.items in
     let ls : List Likeness = c.self.inside.listed.askings.items in

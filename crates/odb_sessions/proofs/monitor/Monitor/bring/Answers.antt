@@ -1,7 +1,7 @@
 use Rattle.std.proofs.Common.{◌≡◌, List, subst, sym, ap, ◌∙◌, map}
 use Rattle.odb_chain.specs.Chains.{Chains}
 use Rattle.odb_sessions.specs.Composed.{AreTheirs, asked_of}
-use Rattle.odb_sessions.specs.Held.{Held, Watched}
+use Rattle.odb_sessions.specs.Marked.{MarkedMonitor, Watched}
 use Rattle.odb_sessions.specs.Moved.{brought_to}
 use Rattle.odb_sessions.specs.Started.{AreApart}
 use Rattle.odb_sessions.proofs.Brought.{brought_asked}
@@ -17,14 +17,14 @@ invariant_of-self c = subst (λ (ws : List Watched). AreTheirs ws × AreApart (a
 pub returns-clause-monitor : goal.returns-clause-monitor
 returns-clause-monitor c = λ h.
     let k : Chains = c.args.past.now in
-    let x : Held = c.args.self.now in
-    let same : c.self.inside.tables.items ≡ x.tables = ap (λ (y : Held). y.tables) c.self.view_is in
-    monitor_brought h k x _ (ap (λ (y : Held). y.id) c.self.view_is) (ap (λ (y : Held). y.notation) c.self.view_is) (ap (λ (y : Held). y.since) c.self.view_is)
+    let x : MarkedMonitor = c.args.self.now in
+    let same : c.self.inside.tables.items ≡ x.tables = ap (λ (y : MarkedMonitor). y.tables) c.self.view_is in
+    monitor_brought h k x _ (ap (λ (y : MarkedMonitor). y.id) c.self.view_is) (ap (λ (y : MarkedMonitor). y.notation) c.self.view_is) (ap (λ (y : MarkedMonitor). y.since) c.self.view_is)
     (c.bring_all.ensures.tables ∙ ap (λ (ws : List Watched). map (brought_to k) ws) same) (subst AreTheirs same c.self.invariant.0)
 
 pub returns-clause-marks : goal.returns-clause-marks
 returns-clause-marks c =
     let k : Chains = c.args.past.now in
-    let x : Held = c.args.self.now in
-    let same : c.self.inside.tables.items ≡ x.tables = ap (λ (y : Held). y.tables) c.self.view_is in
+    let x : MarkedMonitor = c.args.self.now in
+    let same : c.self.inside.tables.items ≡ x.tables = ap (λ (y : MarkedMonitor). y.tables) c.self.view_is in
     marks_brought k x c.bring_all.new.tables.items (c.bring_all.ensures.tables ∙ ap (λ (ws : List Watched). map (brought_to k) ws) same)

@@ -1,8 +1,8 @@
 use Rattle.std.proofs.Common.{◌≡◌, List, subst, sym, ap, ◌∙◌, map}
 use Rattle.odb_sessions.specs.Composed.{AreTheirs, asked_of}
-use Rattle.odb_sessions.specs.Held.{Held, Watched}
+use Rattle.odb_sessions.specs.Marked.{MarkedMonitor, Watched}
 use Rattle.odb_sessions.specs.Moved.{asked_under}
-use Rattle.odb_sessions.specs.Represented.Queued.{filters_of}
+use Rattle.odb_sessions.specs.Represented.Item.{filters_of}
 use Rattle.odb_sessions.specs.Started.{AreApart}
 use Rattle.odb_sessions.proofs.OtherFilters.{apart_asked, marks_asked, monitor_renamed, theirs_asked}
 use Rattle.odb_sessions.proofs.monitor.Monitor.rename.Goals as goal
@@ -19,12 +19,12 @@ invariant_of-self c =
 
 pub returns-clause-monitor : goal.returns-clause-monitor
 returns-clause-monitor c = λ h.
-    let x : Held = c.args.self.now in
-    let same : c.self.inside.tables.items ≡ x.tables = ap (λ (y : Held). y.tables) c.self.view_is in
-    monitor_renamed h x _ (filters_of c.args.changes) (ap (λ (y : Held). y.notation) c.self.view_is) (ap (λ (y : Held). y.since) c.self.view_is) (c.ask_all_under.ensures ∙ ap (λ (ws : List Watched). map (asked_under (filters_of c.args.changes)) ws) same)
+    let x : MarkedMonitor = c.args.self.now in
+    let same : c.self.inside.tables.items ≡ x.tables = ap (λ (y : MarkedMonitor). y.tables) c.self.view_is in
+    monitor_renamed h x _ (filters_of c.args.changes) (ap (λ (y : MarkedMonitor). y.notation) c.self.view_is) (ap (λ (y : MarkedMonitor). y.since) c.self.view_is) (c.ask_all_under.ensures ∙ ap (λ (ws : List Watched). map (asked_under (filters_of c.args.changes)) ws) same)
 
 pub returns-clause-marks : goal.returns-clause-marks
 returns-clause-marks c =
-    let x : Held = c.args.self.now in
-    let same : c.self.inside.tables.items ≡ x.tables = ap (λ (y : Held). y.tables) c.self.view_is in
+    let x : MarkedMonitor = c.args.self.now in
+    let same : c.self.inside.tables.items ≡ x.tables = ap (λ (y : MarkedMonitor). y.tables) c.self.view_is in
     marks_asked (filters_of c.args.changes) x c.ask_all_under.new.tables.items (c.ask_all_under.ensures ∙ ap (λ (ws : List Watched). map (asked_under (filters_of c.args.changes)) ws) same)

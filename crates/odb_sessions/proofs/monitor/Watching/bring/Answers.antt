@@ -1,5 +1,5 @@
 use Rattle.std.proofs.Common.{[], ◌∷◌, subst, sym}
-use Rattle.odb_sessions.specs.Held.{Watched}
+use Rattle.odb_sessions.specs.Marked.{Watched}
 use Rattle.odb_sessions.specs.Moved.{Moves}
 use Rattle.odb_sessions.specs.Tied.{HasAll}
 use Rattle.odb_sessions.proofs.monitor.Watching.bring.Goals as goal

@@ -3,7 +3,7 @@ use Rattle.std.specs.Arc.{arc_value}
 use Rattle.odb_chain.specs.Chains.{Chains}
 use Rattle.odb_cond.specs.Filter.{Filter}
 use Rattle.odb_sessions.specs.Composed.{IsKnown, part_to}
-use Rattle.odb_sessions.specs.Held.{Watched}
+use Rattle.odb_sessions.specs.Marked.{Watched}
 use Rattle.odb_sessions.specs.Represented.Told.{told_under}
 use Rattle.odb_sessions.proofs.Quiet.{now_same}
 use Rattle.odb_sessions.proofs.monitor.Watching.is_told.Goals as goal

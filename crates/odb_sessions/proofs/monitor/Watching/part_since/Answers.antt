@@ -8,7 +8,7 @@ use Rattle.odb_tables.specs.Change.{change, undone}
 use Rattle.odb_tables.specs.Database.{Table, table_at}
 use Rattle.odb_tables.proofs.Changes.{undone-change}
 use Rattle.odb_sessions.specs.Composed.{part_since}
-use Rattle.odb_sessions.specs.Held.{Watched}
+use Rattle.odb_sessions.specs.Marked.{Watched}
 use Rattle.odb_sessions.proofs.monitor.Watching.part_since.Goals as goal
 
 pub returns : goal.returns

@@ -1,6 +1,6 @@
 use Rattle.std.proofs.Common.{rules, ◌≡◌, bytes_eq, ap, ◌∙◌}
 use Rattle.std.specs.List.{list_any}
-use Rattle.odb_sessions.specs.Held.{Watched}
+use Rattle.odb_sessions.specs.Marked.{Watched}
 use Rattle.odb_sessions.specs.Named.{Named}
 use Rattle.odb_sessions.proofs.NamedReplays.{any_shape}
 use Rattle.odb_sessions.proofs.named.Named.has_table.Goals as goal

@@ -1,7 +1,7 @@
 use Rattle.std.proofs.Common.{rules, ◌≡◌, Some, None, sym, ap, ◌∙◌}
 use Rattle.std.specs.Option.{option_copied}
 use Rattle.odb_atoms.specs.FinMap as finite
-use Rattle.odb_sessions.specs.Held.{Sessions}
+use Rattle.odb_sessions.specs.Marked.{Sessions}
 use Rattle.odb_sessions.specs.Represented.Keyed.{key_of}
 use Rattle.odb_sessions.proofs.Keyed.{get-at, get-nowhere}
 use Rattle.odb_sessions.proofs.numbered.Numbered.get.Goals as goal

@@ -3,7 +3,7 @@ use Rattle.std.proofs.Common.{rules, ◌≡◌, ℕ, List, Some, None, inr, sym,
 use Rattle.std.specs.Option.{ghost_name_of}
 use Rattle.slab.specs.Slab.{with_value}
 use Rattle.odb_atoms.specs.FinMap as finite
-use Rattle.odb_sessions.specs.Held.{Kept, Sessions}
+use Rattle.odb_sessions.specs.Marked.{MarkedSession, Sessions}
 use Rattle.odb_sessions.specs.Represented.Keyed.{key_of, sessions_under}
 use Rattle.odb_sessions.proofs.Keyed.{get-at, get-nowhere, view_written}
 use Rattle.odb_sessions.proofs.numbered.Numbered.get_mut.Goals as goal
@@ -14,7 +14,7 @@ returns-in-Some c =
     let slab = c.self.inside.sessions in
     let s = c.args.number in
     let there : key_of index s ≡ Some c.in-Some.key = search rules in
-    let written : (w : Kept) → sessions_under index (with_value slab c.in-Some.key w).slots ≡ finite.insert c.args.self.now s w = λ w. view_written index slab s c.in-Some.key w there c.self.invariant ∙ ap (λ (m : Sessions). finite.insert m s w) c.self.view_is in (
+    let written : (w : MarkedSession) → sessions_under index (with_value slab c.in-Some.key w).slots ≡ finite.insert c.args.self.now s w = λ w. view_written index slab s c.in-Some.key w there c.self.invariant ∙ ap (λ (m : Sessions). finite.insert m s w) c.self.view_is in (
       λ i. read_of (ghost_name_of c.get_mut.result) (λ w. written w i) (c.self.view_is i),
       record { writes_back = tt; value = c.get_mut.ensures.value ∙ sym (get-at index slab.slots s c.in-Some.key there) ∙ ap (λ (m : Sessions). finite.get m s) c.self.view_is },
     )

@@ -1,7 +1,7 @@
 use Rattle.std.proofs.Common.{rules, ◌≡◌, ℕ, ◌≤◌, arith, List, [], ◌∷◌, Option, Some, None, subst, sym, ap, ◌∙◌}
 use Rattle.std.proofs.lemmas.Option.{none-some, same_Some}
 use Rattle.odb_atoms.specs.FinMap as finite
-use Rattle.odb_sessions.specs.Held.{Kept, Sessions}
+use Rattle.odb_sessions.specs.Marked.{MarkedSession, Sessions}
 use Rattle.odb_sessions.specs.Represented.Keyed.{session_under}
 use Rattle.odb_sessions.proofs.WatchBounds.{Bounds, bounds_all, bounds_on, keys_in, within_all}
 use Rattle.odb_sessions.proofs.numbered.Numbered.greatest_watch.Goals as goal
@@ -12,22 +12,22 @@ loop-key-init c = λ b low h. h
 pub loop-key-preserved-in-Some-get : goal.loop-key-preserved-in-Some-get
 loop-key-preserved-in-Some-get c =
     let old = c.loop-key in
-    let slots : List (Option Kept) = c.self.inside.sessions.slots in
+    let slots : List (Option MarkedSession) = c.self.inside.sessions.slots in
     let all : List (ℕ × ℕ) = c.into_iter-key-iterator.result in
     let rest : List (ℕ × ℕ) = c.next.new.self in
     let k : ℕ = c.in-Some.key.now in
     let step : keys_in old.key-iterator ≡ k ∷ keys_in rest = ap keys_in c.in-Some.ensures.steps in
-    let y : Kept = c.in-Some-get.session.now in
+    let y : MarkedSession = c.in-Some-get.session.now in
     let there : session_under slots k ≡ Some y = search rules in
     let up : old.greatest ≤ c.greater-greatest.result = search rules in
     let low : c.watch_number.result ≤ c.greater-greatest.result = search rules in
     bounds_on slots all old.key-iterator rest k old.greatest c.greater-greatest.result step old.invariant up
-    (λ n x at is. let own : c.watch_number.result ≡ n = c.watch_number.ensures n (ap (λ (z : Kept). z.watch) (same_Some y x (sym there ∙ at)) ∙ is) in omega (arith, own, low))
+    (λ n x at is. let own : c.watch_number.result ≡ n = c.watch_number.ensures n (ap (λ (z : MarkedSession). z.watch) (same_Some y x (sym there ∙ at)) ∙ is) in omega (arith, own, low))
 
 pub loop-key-preserved : goal.loop-key-preserved
 loop-key-preserved c =
     let old = c.loop-key in
-    let slots : List (Option Kept) = c.self.inside.sessions.slots in
+    let slots : List (Option MarkedSession) = c.self.inside.sessions.slots in
     let all : List (ℕ × ℕ) = c.into_iter-key-iterator.result in
     let rest : List (ℕ × ℕ) = c.next.new.self in
     let k : ℕ = c.in-Some.key.now in
@@ -40,7 +40,7 @@ pub returns : goal.returns
 returns c = λ s n x there is.
     let old = c.loop-key in
     let index : List (ℕ × ℕ) = c.self.inside.keys.entries in
-    let slots : List (Option Kept) = c.self.inside.sessions.slots in
+    let slots : List (Option MarkedSession) = c.self.inside.sessions.slots in
     let all : c.into_iter-key-iterator.result ≡ index = search rules in
     let none : old.key-iterator ≡ [] = c.in-None.ensures.steps.0 in
     let bounds : Bounds slots index old.greatest old.key-iterator = subst (λ (es : List (ℕ × ℕ)). Bounds slots es old.greatest old.key-iterator) all old.invariant in

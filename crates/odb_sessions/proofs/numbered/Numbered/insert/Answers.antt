@@ -2,7 +2,7 @@ use Rattle.std.proofs.Common.{rules, ◌≡◌, Some, None, sym, ap, subst, ◌�
 use Rattle.std.specs.BTreeMap.{UpdatesBy}
 use Rattle.std.specs.Ordering.{nat_cmp}
 use Rattle.odb_atoms.specs.FinMap as finite
-use Rattle.odb_sessions.specs.Held.{Sessions}
+use Rattle.odb_sessions.specs.Marked.{Sessions}
 use Rattle.odb_sessions.specs.Represented.Keyed.{key_of}
 use Rattle.odb_sessions.proofs.Keyed.{keyed_inserted, view_inserted, without_key}
 use Rattle.odb_sessions.proofs.numbered.Numbered.insert.Goals as goal

@@ -2,7 +2,7 @@ use Rattle.std.proofs.Common.{rules, ◌≡◌, ℕ, Bor, List, [], Option, flat
 use Rattle.std.specs.BTreeMap.{IsOrdered}
 use Rattle.std.specs.Ordering.{nat_cmp}
 use Rattle.odb_chain.specs.Chains.{Mark}
-use Rattle.odb_sessions.specs.Held.{Kept}
+use Rattle.odb_sessions.specs.Marked.{MarkedSession}
 use Rattle.odb_sessions.specs.Tied.{all_marks, entry_marks}
 use Rattle.odb_sessions.proofs.Lent.{Lends, lends_all}
 use Rattle.odb_sessions.proofs.Numbers.{entries-under, marks-filled, marks_under}
@@ -12,7 +12,7 @@ pub returns : goal.returns
 returns c =
     let old = c.loop-key in
     let index : List (ℕ × ℕ) = c.self.inside.keys.entries in
-    let slots : List (Option Kept) = c.self.inside.sessions.slots in
+    let slots : List (Option MarkedSession) = c.self.inside.sessions.slots in
     let ordered : IsOrdered nat_cmp c.self.inside.keys = c.iter-key-items.ensures.ordered in
     let all : c.into_iter-key-iterator.result ≡ index = search rules in
     let none : old.key-iterator ≡ [] = c.in-None.ensures.steps.0 in

@@ -1,5 +1,5 @@
 use Rattle.std.proofs.Common.{◌≡◌, subst, sym, ap, ◌∙◌}
-use Rattle.odb_sessions.specs.Held.{Sessions, all_seen}
+use Rattle.odb_sessions.specs.Marked.{Sessions, all_seen}
 use Rattle.odb_sessions.specs.Posts.{at_number}
 use Rattle.odb_sessions.specs.Tied.{IsTied}
 use Rattle.odb_sessions.specs.Watches.{with_watch}

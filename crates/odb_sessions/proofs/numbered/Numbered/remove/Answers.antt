@@ -1,6 +1,6 @@
 use Rattle.std.proofs.Common.{rules, ◌≡◌, Some, None, sym, ap, ◌∙◌}
 use Rattle.odb_atoms.specs.FinMap as finite
-use Rattle.odb_sessions.specs.Held.{Sessions}
+use Rattle.odb_sessions.specs.Marked.{Sessions}
 use Rattle.odb_sessions.specs.Represented.Keyed.{key_of, sessions_under}
 use Rattle.odb_sessions.proofs.Keyed.{get-at, get-nowhere, keyed_removed, nothing_removed, view_removed}
 use Rattle.odb_sessions.proofs.numbered.Numbered.remove.Goals as goal

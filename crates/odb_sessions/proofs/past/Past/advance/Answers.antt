@@ -39,19 +39,19 @@ pub returns-then-is_now-clause-mark : goal.returns-then-is_now-clause-mark
 returns-then-is_now-clause-mark c =
     let k : Chains = c.self.inside.chains in
     let m : Mark = c.args.mark.now in
-    let is : nat_eq m.place (version k m.table) ≡ true = search rules in
-    let place : m.place ≡ version k m.table = grind (arith, nat_tests) in
+    let is : nat_eq m.version (version k m.table) ≡ true = search rules in
+    let same : m.version ≡ version k m.table = grind (arith, nat_tests) in
     let content : m.content ≡ table_at k.db m.table = search rules in
-    sym (stays_now k m place content) ∙ ap (λ (x : Chains). now_of x m) c.self.view_is
+    sym (stays_now k m same content) ∙ ap (λ (x : Chains). now_of x m) c.self.view_is
 
 pub returns-then-is_now-clause-moved : goal.returns-then-is_now-clause-moved
 returns-then-is_now-clause-moved c =
     let k : Chains = c.self.inside.chains in
     let m : Mark = c.args.mark.now in
-    let is : nat_eq m.place (version k m.table) ≡ true = search rules in
-    let place : m.place ≡ version k m.table = grind (arith, nat_tests) in
+    let is : nat_eq m.version (version k m.table) ≡ true = search rules in
+    let same : m.version ≡ version k m.table = grind (arith, nat_tests) in
     let content : m.content ≡ table_at k.db m.table = search rules in
-    subst (λ (x : Chains). Moves x x (m ∷ [])) c.self.view_is (moves_still k m (stays_now k m place content))
+    subst (λ (x : Chains). Moves x x (m ∷ [])) c.self.view_is (moves_still k m (stays_now k m same content))
 
 pub returns-clause-mark : goal.returns-clause-mark
 returns-clause-mark c = c.advance.ensures.mark ∙ ap (λ (x : Chains). now_of x c.args.mark.now) c.self.view_is

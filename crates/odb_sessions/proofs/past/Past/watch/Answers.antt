@@ -1,6 +1,6 @@
 use Rattle.std.proofs.Common.{rules, ◌≡◌, ◌+◌, ◌<◌, ◌^◌, arith, length, subst, sym}
 use Rattle.odb_chain.specs.Chains.{Chains, IsNow}
-use Rattle.odb_sessions.specs.Held.{table_marks}
+use Rattle.odb_sessions.specs.Marked.{table_marks}
 use Rattle.odb_sessions.specs.Started.{AreOfTables}
 use Rattle.odb_sessions.specs.Tied.{HasRoom, counted_in}
 use Rattle.odb_sessions.proofs.KeptTexts.{same_firsts}

@@ -3,8 +3,8 @@ use Rattle.std.proofs.lemmas.List.{nil_from_length}
 use Rattle.std.specs.Arc.{arc_value}
 use Rattle.odb_schema.specs.Json.{Data}
 use Rattle.odb_sessions.specs.Asked.{ids_after}
-use Rattle.odb_sessions.specs.Held.{Queued, item_seen}
-use Rattle.odb_sessions.specs.Represented.Queued.{queued_of}
+use Rattle.odb_sessions.specs.Marked.{MarkedItem, item_seen}
+use Rattle.odb_sessions.specs.Represented.Item.{marked_item_of}
 use Rattle.odb_sessions.specs.declared.item.Item.{Item}
 use Rattle.odb_sessions.proofs.queue.Queue.ask.Goals as goal
 
@@ -13,8 +13,8 @@ loop-item-preserved c =
     let old = c.loop-item in
     let rest : List Item = c.next.new.self.head.now ++ c.next.new.self.wrapped.now in
     let step : old.item-iterator.head.now ++ old.item-iterator.wrapped.now ≡ c.in-Some.item.now ∷ rest = search rules in
-    ap (ids_after (map item_seen (map queued_of rest))) c.in_ok-ask.ensures
-    ∙ ap (λ (is : List Item). ids_after (map item_seen (map queued_of is)) (map arc_value old.ids.items)) (sym step) ∙ old.invariant
+    ap (ids_after (map item_seen (map marked_item_of rest))) c.in_ok-ask.ensures
+    ∙ ap (λ (is : List Item). ids_after (map item_seen (map marked_item_of is)) (map arc_value old.ids.items)) (sym step) ∙ old.invariant
 
 pub returns : goal.returns
 returns c =
@@ -22,5 +22,5 @@ returns c =
     let ids : List Data = map arc_value c.args.ids.now.items in
     let none : old.item-iterator.head.now ++ old.item-iterator.wrapped.now ≡ [] = nil_from_length (old.item-iterator.head.now ++ old.item-iterator.wrapped.now) c.in-None.ensures.steps.0 in
     let all : c.into_iter-item-iterator.result.head.now ++ c.into_iter-item-iterator.result.wrapped.now ≡ c.self.inside.items.items = search rules in
-    sym (ap (λ (is : List Item). ids_after (map item_seen (map queued_of is)) (map arc_value old.ids.items)) none) ∙ old.invariant
-    ∙ ap (λ (is : List Item). ids_after (map item_seen (map queued_of is)) ids) all ∙ ap (λ (qs : List Queued). ids_after (map item_seen qs) ids) c.self.view_is
+    sym (ap (λ (is : List Item). ids_after (map item_seen (map marked_item_of is)) (map arc_value old.ids.items)) none) ∙ old.invariant
+    ∙ ap (λ (is : List Item). ids_after (map item_seen (map marked_item_of is)) ids) all ∙ ap (λ (qs : List MarkedItem). ids_after (map item_seen qs) ids) c.self.view_is

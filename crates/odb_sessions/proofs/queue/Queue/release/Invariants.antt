@@ -1,6 +1,6 @@
 use Rattle.std.proofs.Common.{flat_map, length}
 use Rattle.odb_chain.specs.Chains.{Chains}
-use Rattle.odb_sessions.specs.Held.{marks_due}
+use Rattle.odb_sessions.specs.Marked.{marks_due}
 use Rattle.odb_sessions.specs.Tied.{Frees, HasAll}
 use Rattle.odb_sessions.proofs.queue.Queue.release.Given as goal
 

@@ -3,7 +3,7 @@ use Rattle.odb_chain.specs.Chains.{Chains}
 use Rattle.odb_service.specs.Server.{served_by}
 use Rattle.odb_service.specs.Session.{Session}
 use Rattle.odb_sessions.specs.Carried.{last_finished, used_by}
-use Rattle.odb_sessions.specs.Held.{Kept, marks_of, seen}
+use Rattle.odb_sessions.specs.Marked.{MarkedSession, marks_of, seen}
 use Rattle.odb_sessions.proofs.Carried.{carried_on, nothing_carried, ready_then}
 use Rattle.odb_sessions.proofs.Used.{next_text, used_left, used_more}
 use Rattle.odb_sessions.proofs.session.Session.use_up.Goals as goal
@@ -24,7 +24,7 @@ pub loop-used-preserved : goal.loop-used-preserved
 loop-used-preserved c =
     let old = c.loop-used in
     let first : Chains = c.args.past.now in
-    let x : Kept = c.args.self.now in
+    let x : MarkedSession = c.args.self.now in
     let n : ℕ = old.used in
     record {
       session = λ s.

@@ -3,7 +3,7 @@ use Rattle.odb_queue.specs.Represented.Item.{item_of}
 use Rattle.odb_schema.specs.Schema.{Schema}
 use Rattle.odb_service.specs.Server.{served_by}
 use Rattle.odb_sessions.specs.Carried.{Carries, last_finished, used_by}
-use Rattle.odb_sessions.specs.Held.{marks_of, seen}
+use Rattle.odb_sessions.specs.Marked.{marks_of, seen}
 use Rattle.odb_sessions.proofs.session.Session.use_up.Given as goal
 use Rattle.odb_sessions.specs.Watches.{KeepsWatch}
 

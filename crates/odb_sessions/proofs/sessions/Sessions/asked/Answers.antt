@@ -8,7 +8,7 @@ use Rattle.odb_service.specs.Session.{asked}
 use Rattle.odb_service.specs.World.{asked_of, watched}
 use Rattle.odb_sessions.specs.Asked.{is_same}
 use Rattle.odb_sessions.specs.Book.{Book}
-use Rattle.odb_sessions.specs.Held.{Kept, Sessions, seen}
+use Rattle.odb_sessions.specs.Marked.{MarkedSession, Sessions, seen}
 use Rattle.odb_sessions.proofs.Replays.{any-mapped, any_watched, asked_ids}
 use Rattle.odb_sessions.proofs.Ties.{get-seen}
 use Rattle.odb_sessions.proofs.sessions.Sessions.asked.Goals as goal
@@ -24,7 +24,7 @@ pub returns : goal.returns
 returns c = λ schema.
     let m : Sessions = c.self.inside.sessions in
     let i : Data = c.args.id.now in
-    let x : Kept = c.in-Some.of.now in
+    let x : MarkedSession = c.in-Some.of.now in
     let there : finite.get m c.args.session ≡ Some x = search rules in
     let any : c.has.result ≡ list_any (λ y. is_same i (arc_value y)) c.in_ok-ids.ids.items = search rules in
     any ∙ any-mapped arc_value (is_same i) c.in_ok-ids.ids.items ∙ ap (list_any (is_same i)) (c.in_ok-ids.ensures ∙ sym (asked_ids schema (seen x)))

@@ -6,7 +6,7 @@ use Rattle.odb_service.specs.Session.{asked}
 use Rattle.odb_service.specs.World.{asked_of, watched}
 use Rattle.odb_sessions.specs.Asked.{is_same}
 use Rattle.odb_sessions.specs.Book.{Book}
-use Rattle.odb_sessions.specs.Held.{Kept, Sessions, seen}
+use Rattle.odb_sessions.specs.Marked.{MarkedSession, Sessions, seen}
 use Rattle.odb_sessions.specs.Named.{Named, named}
 use Rattle.odb_sessions.proofs.NamedReplays.{asked_named, found_named}
 use Rattle.odb_sessions.proofs.Ties.{get-seen}
@@ -23,7 +23,7 @@ pub returns : goal.returns
 returns c = λ schema.
     let m : Sessions = c.self.inside.sessions in
     let i : Data = c.args.id.now in
-    let x : Kept = c.in-Some.of.now in
+    let x : MarkedSession = c.in-Some.of.now in
     let there : finite.get m c.args.session ≡ Some x = search rules in
     let first : c.first_of.result ≡ find (λ (n : Named). is_same i n.id) c.in_ok-named.named.items = search rules in
     first ∙ ap (find (λ (n : Named). is_same i n.id)) (c.in_ok-named.ensures ∙ sym (asked_named schema (seen x)))

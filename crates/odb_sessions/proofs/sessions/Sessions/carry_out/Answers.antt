@@ -5,7 +5,7 @@ use Rattle.odb_service.specs.Server.{served_by}
 use Rattle.odb_service.specs.Session.{Out, Session}
 use Rattle.odb_recent.specs.Recent.{recent_of}
 use Rattle.odb_sessions.specs.Book.{Book, book_with, revision_in}
-use Rattle.odb_sessions.specs.Held.{all_seen}
+use Rattle.odb_sessions.specs.Marked.{all_seen}
 use Rattle.odb_sessions.specs.Carried.{last_finished, used_by, UsesUp}
 use Rattle.odb_sessions.specs.Owed.{book_seen}
 use Rattle.odb_sessions.specs.Posts.{at_number}

@@ -4,9 +4,9 @@ use Rattle.std.specs.Ordering.{nat_cmp}
 use Rattle.odb_service.specs.Session.{Session, renamed, shift}
 use Rattle.odb_recent.specs.Recent.{recent_of}
 use Rattle.odb_sessions.specs.Book.{Book, book_with}
-use Rattle.odb_sessions.specs.Held.{Queued, Sessions, all_seen}
+use Rattle.odb_sessions.specs.Marked.{MarkedItem, Sessions, all_seen}
 use Rattle.odb_sessions.specs.Posts.{at_number}
-use Rattle.odb_sessions.specs.Represented.Queued.{queued_of}
+use Rattle.odb_sessions.specs.Represented.Item.{marked_item_of}
 use Rattle.odb_sessions.specs.Stopped.{changed_in}
 use Rattle.odb_sessions.specs.Owed.{HangTogether, book_seen}
 use Rattle.odb_sessions.specs.Tied.{IsTied}
@@ -26,7 +26,7 @@ invariant_of-self-2 c =
     let old = c.self.inside in
     let b : Book = book_seen old.past old.sessions in
     let s = c.args.session in
-    let qs : List Queued = map queued_of c.in_ok-items.items.items in
+    let qs : List MarkedItem = map marked_item_of c.in_ok-items.items.items in
     let grown : Updates nat_cmp old.owed c.insert.new.self s true = search rules in
     let f : Session → Session = changed_in c.args.changing in
     together old.past c.post_each.new.self c.insert.new.self old.interest (record b { sessions = at_number f b.sessions s })
@@ -37,6 +37,6 @@ invariant_of-self-2 c =
 pub returns-clause-ok : goal.returns-clause-ok
 returns-clause-ok c =
     let m : Sessions = c.self.inside.sessions in
-    let qs : List Queued = map queued_of c.in_ok-items.items.items in
+    let qs : List MarkedItem = map marked_item_of c.in_ok-items.items.items in
     (λ i. book_with c.self.inside.past.db c.self.inside.recent ((ap all_seen c.in_ok-post_each.ensures.ok ∙ two_seen (shift c.args.changing.old c.args.changing.filters) (renamed c.args.changing.request c.args.changing.old c.args.changing.new c.args.changing.filters) qs c.in_ok-items.ensures m c.args.session) i))
     ∙ ap (λ (b : Book). let y : Book = record b { sessions = at_number (changed_in c.args.changing) b.sessions c.args.session } in y) c.self.view_is

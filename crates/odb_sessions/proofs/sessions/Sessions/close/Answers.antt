@@ -2,7 +2,7 @@ use Rattle.std.proofs.Common.{rules, ◌≡◌, false, Some, None, subst, sym, a
 use Rattle.odb_atoms.specs.FinMap as finite
 use Rattle.odb_recent.specs.Recent.{recent_of}
 use Rattle.odb_sessions.specs.Book.{Book, book_with}
-use Rattle.odb_sessions.specs.Held.{Sessions, all_seen}
+use Rattle.odb_sessions.specs.Marked.{Sessions, all_seen}
 use Rattle.std.specs.BTreeSet.{Updates}
 use Rattle.std.specs.Ordering.{nat_cmp}
 use Rattle.odb_sessions.specs.Owed.{book_seen}

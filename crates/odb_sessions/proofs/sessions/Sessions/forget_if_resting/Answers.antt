@@ -6,7 +6,7 @@ use Rattle.odb_atoms.specs.FinMap as finite
 use Rattle.odb_interest.specs.Keys.{asked_at}
 use Rattle.odb_recent.specs.Recent.{recent_of}
 use Rattle.odb_sessions.specs.Book.{Book, book_with}
-use Rattle.odb_sessions.specs.Held.{Sessions, seen}
+use Rattle.odb_sessions.specs.Marked.{Sessions, seen}
 use Rattle.odb_sessions.specs.Owed.{IsAtRest, book_seen, interest_if}
 use Rattle.odb_sessions.specs.Quiet.{IsQuietAt}
 use Rattle.odb_sessions.proofs.OwedSessions.{resting_rest, said_others, said_rest, together}

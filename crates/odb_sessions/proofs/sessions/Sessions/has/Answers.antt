@@ -1,12 +1,12 @@
 use Rattle.std.proofs.Common.{rules, ◌≡◌, Option, Some, None, is_some, option_map, refl, sym, ap, ◌∙◌}
 use Rattle.odb_atoms.specs.FinMap as finite
 use Rattle.odb_sessions.specs.Book.{Book}
-use Rattle.odb_sessions.specs.Held.{Kept, Sessions, seen}
+use Rattle.odb_sessions.specs.Marked.{MarkedSession, Sessions, seen}
 use Rattle.odb_sessions.proofs.Ties.{get-seen}
 use Rattle.odb_sessions.proofs.sessions.Sessions.has.Goals as goal
 
 -- what is seen of a session is there where the session is
-still_there : (o : Option Kept) → is_some (option_map seen o) ≡ is_some o
+still_there : (o : Option MarkedSession) → is_some (option_map seen o) ≡ is_some o
 still_there None = refl
 still_there (Some x) = refl
 

@@ -7,8 +7,8 @@ use Rattle.odb_recent.specs.Recent.{Recent}
 use Rattle.odb_recent.specs.Undo.{Undo}
 use Rattle.odb_sessions.specs.Book.{Book, book_with}
 use Rattle.odb_sessions.specs.Committed.{ComeTo, all_noted, each_changed_with}
-use Rattle.odb_sessions.specs.Held.{Sessions, all_seen}
-use Rattle.odb_sessions.specs.Owed.{AreAtRest, AreNoted, book_seen}
+use Rattle.odb_sessions.specs.Marked.{Sessions, all_seen}
+use Rattle.odb_sessions.specs.Owed.{AreAdded, AreAtRest, book_seen}
 use Rattle.odb_sessions.specs.Tied.{IsTied}
 use Rattle.odb_sessions.proofs.InTurn.{books_committed}
 use Rattle.odb_sessions.proofs.OwedSessions.{rest_owed, said_rest, still_rest}
@@ -27,11 +27,11 @@ refresh_each-requires-clause-owed c =
 pub invariant_of-self : goal.invariant_of-self
 invariant_of-self c =
     let old = c.self.inside in
-    let o = c.note_each.new.owed in
+    let o = c.add_each.new.owed in
     let i = old.interest in
     let j = c.forget_owed.new.interest in
     let b : Book = book_seen old.past old.sessions in
-    let kept : AreNoted old.owed o [] = c.note_each.ensures.kept in
+    let kept : AreAdded old.owed o [] = c.add_each.ensures.kept in
     (c.refresh_each.ensures.tied, subst (AreAtRest o j) (sym c.refresh_each.ensures.seen) (said_rest o i j b (still_rest old.owed o i b [] c.self.invariant.1 kept) (λ q out. c.forget_owed.ensures.resting q (kept q out).0)))
 
 pub absorb-requires : goal.absorb-requires
@@ -41,11 +41,11 @@ pub invariant_of-self-in_err-absorb : goal.invariant_of-self-in_err-absorb
 invariant_of-self-in_err-absorb c =
     let old = c.self.inside in
     let m : Sessions = c.refresh_each.new.sessions in
-    let o = c.note_each.new.owed in
+    let o = c.add_each.new.owed in
     let i = old.interest in
     let j = c.forget_owed.new.interest in
     let b : Book = book_seen old.past old.sessions in
-    let kept : AreNoted old.owed o [] = c.note_each.ensures.kept in
+    let kept : AreAdded old.owed o [] = c.add_each.ensures.kept in
     let rest : AreAtRest o j b = said_rest o i j b (still_rest old.owed o i b [] c.self.invariant.1 kept) (λ q out. c.forget_owed.ensures.resting q (kept q out).0) in (
       subst (λ (x : Chains). IsTied x m) (sym c.in_err-absorb.ensures.err) c.refresh_each.ensures.tied,
       subst (λ (x : Chains). AreAtRest o j (book_seen x m)) (sym c.in_err-absorb.ensures.err) (subst (AreAtRest o j) (sym c.refresh_each.ensures.seen) rest),
@@ -58,11 +58,11 @@ pub go_on-requires-clause-owed : goal.go_on-requires-clause-owed
 go_on-requires-clause-owed c =
     let old = c.self.inside in
     let m : Sessions = c.refresh_each.new.sessions in
-    let o = c.note_each.new.owed in
+    let o = c.add_each.new.owed in
     let i = old.interest in
     let b : Book = book_seen old.past old.sessions in
     let all : c.as_slice-concerned.result.now ≡ c.in_ok-touched.touched.items = search rules in
-    let noted : AreNoted old.owed o c.in_ok-touched.touched.items = subst (AreNoted old.owed o) all c.in_ok-note_each.ensures.noted in
+    let noted : AreAdded old.owed o c.in_ok-touched.touched.items = subst (AreAdded old.owed o) all c.in_ok-add_each.ensures.added in
     let named : AreTouched c.args.change i c.in_ok-touched.touched.items = search rules in
     let is : IsChangeOf b.db c.args.change = subst (λ (x : Book). IsChangeOf x.db c.args.change) (sym c.self.view_is) c.requires in
     let after = book_after old.past c.absorb.new.self c.refresh_each.new.past old.sessions m c.args.change c.in_ok-absorb.ensures.ok c.refresh_each.ensures.seen in
@@ -72,12 +72,12 @@ pub invariant_of-self-2 : goal.invariant_of-self-2
 invariant_of-self-2 c =
     let old = c.self.inside in
     let m : Sessions = c.refresh_each.new.sessions in
-    let o = c.note_each.new.owed in
+    let o = c.add_each.new.owed in
     let i = old.interest in
     let j = c.forget_owed.new.interest in
     let b : Book = book_seen old.past old.sessions in
     let all : c.as_slice-concerned.result.now ≡ c.in_ok-touched.touched.items = search rules in
-    let noted : AreNoted old.owed o c.in_ok-touched.touched.items = subst (AreNoted old.owed o) all c.in_ok-note_each.ensures.noted in
+    let noted : AreAdded old.owed o c.in_ok-touched.touched.items = subst (AreAdded old.owed o) all c.in_ok-add_each.ensures.added in
     let named : AreTouched c.args.change i c.in_ok-touched.touched.items = search rules in
     let is : IsChangeOf b.db c.args.change = subst (λ (x : Book). IsChangeOf x.db c.args.change) (sym c.self.view_is) c.requires in
     let after = book_after old.past c.absorb.new.self c.refresh_each.new.past old.sessions m c.args.change c.in_ok-absorb.ensures.ok c.refresh_each.ensures.seen in (
@@ -87,8 +87,8 @@ invariant_of-self-2 c =
           (λ q out. c.forget_owed.ensures.resting q (noted q out).0)),
     )
 
-pub returns-in_err-note_each-clause-err : goal.returns-in_err-note_each-clause-err
-returns-in_err-note_each-clause-err c = on_err c.from_residual-in_err-note_each.result _ (ap (λ (b : Book). book_with b.db c.self.inside.recent b.sessions) c.refresh_each.ensures.seen ∙ c.self.view_is)
+pub returns-in_err-add_each-clause-err : goal.returns-in_err-add_each-clause-err
+returns-in_err-add_each-clause-err c = on_err c.from_residual-in_err-add_each.result _ (ap (λ (b : Book). book_with b.db c.self.inside.recent b.sessions) c.refresh_each.ensures.seen ∙ c.self.view_is)
 
 pub returns-in_err-absorb-clause-err : goal.returns-in_err-absorb-clause-err
 returns-in_err-absorb-clause-err c =
@@ -102,8 +102,8 @@ returns-clause-ok c = λ css come.
     let m = all_seen old.sessions in
     let after = book_after old.past c.absorb.new.self c.refresh_each.new.past old.sessions c.refresh_each.new.sessions c.args.change c.in_ok-absorb.ensures.ok c.refresh_each.ensures.seen in
     let at : ComeTo (book_with old.past.db old.recent m) us c.args.change css = subst (λ (b : Book). ComeTo b us c.args.change css) (sym c.self.view_is) come in
-    let noted_so : c.note_commits.new.recent ≡ all_noted us old.recent = search rules in
-    ap (λ (b : Book). book_with b.db c.note_commits.new.recent b.sessions) (c.go_on.ensures.seen ∙ after)
+    let noted_so : c.push_commits.new.recent ≡ all_noted us old.recent = search rules in
+    ap (λ (b : Book). book_with b.db c.push_commits.new.recent b.sessions) (c.go_on.ensures.seen ∙ after)
     ∙ ap (λ (r : Recent). book_with (all_changed_by old.past.db c.args.change) r m) noted_so
     ∙ ap (λ (d : Db). book_with d (all_noted us old.recent) m) at.1
     ∙ books_committed css old.past.db old.recent us m at.0 at.2

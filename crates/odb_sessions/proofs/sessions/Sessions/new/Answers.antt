@@ -3,7 +3,7 @@ use Rattle.odb_atoms.specs.FinMap as finite
 use Rattle.odb_chain.specs.Chains.{Chains, IsNow, chains_of}
 use Rattle.odb_recent.specs.Recent.{Recent, recent_of}
 use Rattle.odb_sessions.specs.Book.{book_with, book_of}
-use Rattle.odb_sessions.specs.Held.{Sessions, all_seen}
+use Rattle.odb_sessions.specs.Marked.{Sessions, all_seen}
 use Rattle.odb_sessions.specs.Tied.{IsTied}
 use Rattle.odb_sessions.proofs.OwedSessions.{none_rest, together}
 use Rattle.odb_sessions.proofs.Ties.{seen-empty, tied_none}

@@ -3,10 +3,10 @@ use Rattle.std.proofs.lemmas.Result.{IfOk-weaker, on_err_weaker}
 use Rattle.odb_queue.specs.Represented.Post.{post_of}
 use Rattle.odb_recent.specs.Recent.{recent_of}
 use Rattle.odb_sessions.specs.Book.{Book, book_with}
-use Rattle.odb_sessions.specs.Held.{Sessions, all_seen}
+use Rattle.odb_sessions.specs.Marked.{Sessions, all_seen}
 use Rattle.odb_sessions.specs.Posts.{all_posted}
 use Rattle.odb_queue.specs.declared.post.Post.{Post}
-use Rattle.odb_sessions.specs.Owed.{AreNoted, HangTogether, addressed, book_seen}
+use Rattle.odb_sessions.specs.Owed.{AreAdded, HangTogether, addressed, book_seen}
 use Rattle.odb_sessions.specs.Tied.{IsTied}
 use Rattle.odb_sessions.proofs.OwedSessions.{noted_rest, still_rest, together}
 use Rattle.odb_sessions.proofs.Seen.{either_posted, posts_seen, posts_tied, unposts_seen}
@@ -15,7 +15,7 @@ use Rattle.odb_sessions.proofs.sessions.Sessions.post_all.Goals as goal
 pub invariant_of-self : goal.invariant_of-self
 invariant_of-self c =
     let old = c.self.inside in
-    (c.self.invariant.0, still_rest old.owed c.note_all.new.owed old.interest (book_seen old.past old.sessions) [] c.self.invariant.1 c.note_all.ensures.kept)
+    (c.self.invariant.0, still_rest old.owed c.add_addressed.new.owed old.interest (book_seen old.past old.sessions) [] c.self.invariant.1 c.add_addressed.ensures.kept)
 
 pub invariant_of-self-2 : goal.invariant_of-self-2
 invariant_of-self-2 c =
@@ -23,10 +23,10 @@ invariant_of-self-2 c =
     let k = old.past in
     let m : Sessions = old.sessions in
     let b : Book = book_seen k m in
-    let o = c.note_all.new.owed in
+    let o = c.add_addressed.new.owed in
     let ps = map post_of c.args.posts.items in
     let same : c.as_slice.result.now ≡ c.args.posts.items = search rules in
-    let noted : AreNoted old.owed o (addressed ps) = subst (λ (xs : List Post). AreNoted old.owed o (addressed (map post_of xs))) same c.in_ok-note_all.ensures.noted in
+    let noted : AreAdded old.owed o (addressed ps) = subst (λ (xs : List Post). AreAdded old.owed o (addressed (map post_of xs))) same c.in_ok-add_addressed.ensures.added in
     either_posted c.post_all.result (HangTogether k c.post_all.new.self o old.interest)
     (c.post_all.ensures.ok) (c.post_all.ensures.err)
     (λ p is. together k c.post_all.new.self o old.interest (record b { sessions = all_posted b.sessions ps }) (subst (IsTied k) (sym is) (posts_tied k m ps c.self.invariant.0))

@@ -6,9 +6,9 @@ use Rattle.odb_queue.specs.Represented.Item.{item_of}
 use Rattle.odb_sessions.specs.Asked.{ended_in}
 use Rattle.odb_recent.specs.Recent.{recent_of}
 use Rattle.odb_sessions.specs.Book.{Book, book_with}
-use Rattle.odb_sessions.specs.Held.{Kept, Queued, Sessions, all_seen, seen}
+use Rattle.odb_sessions.specs.Marked.{MarkedItem, MarkedSession, Sessions, all_seen, seen}
 use Rattle.odb_sessions.specs.Posts.{at_number}
-use Rattle.odb_sessions.specs.Represented.Queued.{queued_of}
+use Rattle.odb_sessions.specs.Represented.Item.{marked_item_of}
 use Rattle.std.specs.BTreeSet.{Updates}
 use Rattle.std.specs.Ordering.{nat_cmp}
 use Rattle.odb_service.specs.Session.{Session}
@@ -39,9 +39,9 @@ invariant_of-self-2 c =
     let b : Book = book_seen k m in
     let s = c.args.session in
     let o = c.insert.new.self in
-    let x : Kept = c.in-Some.of.now in
+    let x : MarkedSession = c.in-Some.of.now in
     let there : finite.get m s ≡ Some x = search rules in
-    let qs : List Queued = map queued_of c.in_ok-items.items.items in
+    let qs : List MarkedItem = map marked_item_of c.in_ok-items.items.items in
     let grown : Updates nat_cmp old.owed o s true = search rules in
     let f : Session → Session = ended_in no_schema (item_of c.args.reply) in
     either_posted c.post_each.result (HangTogether k c.post_each.new.self o old.interest)
@@ -55,9 +55,9 @@ pub returns-clause-ok : goal.returns-clause-ok
 returns-clause-ok c =
     let m : Sessions = c.self.inside.sessions in
     let s = c.args.session in
-    let x : Kept = c.in-Some.of.now in
+    let x : MarkedSession = c.in-Some.of.now in
     let there : finite.get m s ≡ Some x = search rules in
-    let qs : List Queued = map queued_of c.in_ok-items.items.items in
+    let qs : List MarkedItem = map marked_item_of c.in_ok-items.items.items in
     IfOk-weaker c.post_each.result _ _
     (λ p is schema. (λ i. book_with c.self.inside.past.db c.self.inside.recent ((ap all_seen is ∙ ending_seen arc_value (item_of c.args.reply) schema m s x qs c.in_ok-ids.ids.items there c.in_ok-items.ensures c.in_ok-ids.ensures) i)) ∙ ap (λ (b : Book). let y : Book = record b { sessions = at_number (ended_in schema (item_of c.args.reply)) b.sessions s } in y) c.self.view_is)
     c.post_each.ensures.ok

@@ -2,7 +2,7 @@ use Rattle.std.proofs.Common.{rules, ◌≡◌, None, Some, sym, ap, subst, ◌�
 use Rattle.odb_atoms.specs.FinMap as finite
 use Rattle.odb_chain.specs.Chains.{Chains}
 use Rattle.odb_sessions.specs.Book.{Book}
-use Rattle.odb_sessions.specs.Held.{Kept, Sessions, marks_of, seen}
+use Rattle.odb_sessions.specs.Marked.{MarkedSession, Sessions, marks_of, seen}
 use Rattle.odb_sessions.specs.Quiet.{IsQuiet, IsQuietAt}
 use Rattle.odb_sessions.specs.Tied.{AreLive}
 use Rattle.odb_sessions.proofs.QuietSessions.{on_true, quiet_open, quiet_shut}
@@ -12,7 +12,7 @@ use Rattle.odb_tables.specs.Database.{Db}
 pub rests-requires : goal.rests-requires
 rests-requires c =
     let m : Sessions = c.self.inside.sessions in
-    let x : Kept = c.in-Some.of.now in
+    let x : MarkedSession = c.in-Some.of.now in
     let there : finite.get m c.args.session ≡ Some x = search rules in
     subst (λ (k : Chains). AreLive k (marks_of x)) (sym c.chains.ensures) (c.self.invariant.0.2 c.args.session x there)
 
@@ -26,7 +26,7 @@ pub returns : goal.returns
 returns c =
     let b : Book = c.args.self.now in
     let m : Sessions = c.self.inside.sessions in
-    let x : Kept = c.in-Some.of.now in
+    let x : MarkedSession = c.in-Some.of.now in
     let there : finite.get m c.args.session ≡ Some x = search rules in
     let db : c.chains.result.now.db ≡ b.db = ap (λ (k : Chains). k.db) c.chains.ensures ∙ ap (λ (d : Book). d.db) c.self.view_is in
     on_true c.rests.result (IsQuietAt b c.args.session)

@@ -4,9 +4,9 @@ use Rattle.odb_chain.specs.Chains.{Chains}
 use Rattle.odb_service.specs.World.{push}
 use Rattle.odb_recent.specs.Recent.{recent_of}
 use Rattle.odb_sessions.specs.Book.{Book, book_with}
-use Rattle.odb_sessions.specs.Held.{Kept, Queued, Sessions, all_seen, due, marks_due, marks_in, seen}
+use Rattle.odb_sessions.specs.Marked.{MarkedItem, MarkedSession, Sessions, all_seen, due, marks_due, marks_in, seen}
 use Rattle.odb_sessions.specs.Posts.{at_number, posted}
-use Rattle.odb_sessions.specs.Represented.Queued.{queued_of}
+use Rattle.odb_sessions.specs.Represented.Item.{marked_item_of}
 use Rattle.odb_sessions.specs.Started.{started}
 use Rattle.std.specs.BTreeSet.{Updates}
 use Rattle.std.specs.Ordering.{nat_cmp}
@@ -47,8 +47,8 @@ invariant_of-self-in-Ok c =
     let m : Sessions = c.self.inside.sessions in
     let s = c.args.session in
     let new : Chains = c.begin.new.past in
-    let q : Queued = due c.in_ok-start.start.origin c.in_ok-start.start.monitor in
-    let found : (x : Kept) × (finite.get m s ≡ Some x) = there_is (finite.get m s) c.in-Ok.ensures.is_open in
+    let q : MarkedItem = due c.in_ok-start.start.origin c.in_ok-start.start.monitor in
+    let found : (x : MarkedSession) × (finite.get m s ≡ Some x) = there_is (finite.get m s) c.in-Ok.ensures.is_open in
     let b : Book = book_seen c.self.inside.past m in
     let o = c.insert.new.self in
     let grown : Updates nat_cmp c.self.inside.owed o s true = search rules in
@@ -63,7 +63,7 @@ invariant_of-self-in-Err c =
     let m : Sessions = c.self.inside.sessions in
     let made : Chains = c.begin.new.past in
     let new : Chains = c.release.new.past in
-    let frees : Frees made new (marks_in c.in_ok-start.start.monitor) = subst (λ (i : Item). Frees made new (marks_due (queued_of i))) c.in-Err.ensures.handed_back c.release.ensures in
+    let frees : Frees made new (marks_in c.in_ok-start.start.monitor) = subst (λ (i : Item). Frees made new (marks_due (marked_item_of i))) c.in-Err.ensures.handed_back c.release.ensures in
     let k : Chains = c.self.inside.past in
     let o = c.insert.new.self in
     let b : Book = book_seen k m in
@@ -78,6 +78,6 @@ pub returns-in-Ok-clause-ok : goal.returns-in-Ok-clause-ok
 returns-in-Ok-clause-ok c =
     let m : Sessions = c.self.inside.sessions in
     let s = c.args.session in
-    let q : Queued = due c.in_ok-start.start.origin c.in_ok-start.start.monitor in
+    let q : MarkedItem = due c.in_ok-start.start.origin c.in_ok-start.start.monitor in
     (λ i. book_with (c.in_ok-start.ensures.ok.0 i) c.self.inside.recent ((ap all_seen c.in-Ok.ensures.ok ∙ handed_seen m q s ∙ ap (λ j. at_number (push (j ∷ [])) (all_seen m) s) c.in_ok-start.ensures.item) i))
     ∙ ap (λ (b : Book). let y : Book = record b { sessions = posted b.sessions (s, started c.args.starting) } in y) c.self.view_is

@@ -1,9 +1,9 @@
 use Rattle.std.proofs.Common.{rules, ◌≡◌, [], ◌∷◌, Some, None, subst, sym, ap, ◌∙◌}
 use Rattle.odb_recent.specs.Recent.{recent_of}
 use Rattle.odb_sessions.specs.Book.{Book, book_with}
-use Rattle.odb_sessions.specs.Held.{Queued, Sessions, all_seen}
+use Rattle.odb_sessions.specs.Marked.{MarkedItem, Sessions, all_seen}
 use Rattle.odb_sessions.specs.Posts.{newest_at}
-use Rattle.odb_sessions.specs.Represented.Queued.{queued_of}
+use Rattle.odb_sessions.specs.Represented.Item.{marked_item_of}
 use Rattle.odb_sessions.specs.Owed.{HangTogether, book_seen}
 use Rattle.odb_sessions.specs.Tied.{IsTied}
 use Rattle.odb_sessions.proofs.OwedSessions.{together, unposted_rest}
@@ -15,14 +15,14 @@ use Rattle.odb_sessions.proofs.sessions.Sessions.take_newest_back.Goals as goal
 pub release-requires : goal.release-requires
 release-requires c =
     let m : Sessions = c.self.inside.sessions in
-    let q : Queued = queued_of c.in-Some.item in
+    let q : MarkedItem = marked_item_of c.in-Some.item in
     let newest : newest_at m c.args.session ≡ Some q = search rules in
     has_newest c.self.inside.past m c.args.session q c.self.invariant.0 newest
 
 pub invariant_of-self-2 : goal.invariant_of-self-2
 invariant_of-self-2 c =
     let m : Sessions = c.self.inside.sessions in
-    let q : Queued = queued_of c.in-Some.item in
+    let q : MarkedItem = marked_item_of c.in-Some.item in
     let newest : newest_at m c.args.session ≡ Some q = search rules in
     let s = c.args.session in
     let b : Book = book_seen c.self.inside.past m in

@@ -6,7 +6,7 @@ use mathlib.Core.Bool.{true≢false}
 use Rattle.odb_atoms.specs.Represented.Atom.{uuid_of}
 use Rattle.odb_atoms.specs.Uuid.{uuid_cmp}
 use Rattle.odb_tables.specs.Database.{table_at}
-use Rattle.odb_tables.specs.Kept.{AlikeAt, cells_at}
+use Rattle.odb_tables.specs.Indexed.{AlikeAt, cells_at}
 use Rattle.odb_tables.proofs.Touching.{listed_more}
 use Rattle.odb_tables.proofs.draft.Draft.are_alike.Goals as goal
 

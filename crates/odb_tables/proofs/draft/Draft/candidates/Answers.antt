@@ -4,7 +4,7 @@ use Rattle.std.specs.Prelude.{List}
 use Rattle.odb_tables.specs.Database.{Db, table_at}
 use Rattle.odb_tables.specs.Draft.{Draft}
 use Rattle.odb_tables.specs.Represented.Draft.{ground}
-use Rattle.odb_tables.specs.Represented.Keeping.{Suffices}
+use Rattle.odb_tables.specs.Represented.RowIndex.{Suffices}
 use Rattle.odb_tables.specs.Represented.Overlay.{Touched}
 use Rattle.odb_tables.proofs.Grounds.{grounds-Suffices}
 use Rattle.odb_tables.proofs.draft.Draft.candidates.Goals as goal

@@ -60,7 +60,7 @@ returns-clause-change_of c =
     let db : Db = grounds c.self.inside.base.now c.self.inside.under.now in
     let os : List Touched = c.self.inside.overlays.items in
     let new : Db = stamped v c.args.self.old c.args.self.now in
-    let long : length new ≡ length c.args.self.old = ap (λ (d : Draft). length (stamped v d.old d.now)) (sym c.self.view_is) ∙ length-stamped v db os c.self.invariant ∙ ap (λ (d : Draft). length d.old) c.self.view_is in
+    let long : length new ≡ length c.args.self.old = ap (λ (d : Draft). length (stamped v d.old d.now)) (sym c.self.view_is) ∙ length-stamped v db os c.self.invariant.0 ∙ ap (λ (d : Draft). length d.old) c.self.view_is in
     subst (IsChangeOf c.args.self.old) (sym (returns-clause-changes c)) (change-of c.args.self.old new long)
 
 pub returns-clause-leads_to : goal.returns-clause-leads_to
@@ -69,5 +69,5 @@ returns-clause-leads_to c =
     let db : Db = grounds c.self.inside.base.now c.self.inside.under.now in
     let os : List Touched = c.self.inside.overlays.items in
     let new : Db = stamped v c.args.self.old c.args.self.now in
-    let long : length new ≡ length c.args.self.old = ap (λ (d : Draft). length (stamped v d.old d.now)) (sym c.self.view_is) ∙ length-stamped v db os c.self.invariant ∙ ap (λ (d : Draft). length d.old) c.self.view_is in
+    let long : length new ≡ length c.args.self.old = ap (λ (d : Draft). length (stamped v d.old d.now)) (sym c.self.view_is) ∙ length-stamped v db os c.self.invariant.0 ∙ ap (λ (d : Draft). length d.old) c.self.view_is in
     ap (all_changed_by c.args.self.old) (returns-clause-changes c) ∙ leads-to c.args.self.old new long

@@ -1,7 +1,7 @@
 use Rattle.std.proofs.Common.{◌≡◌, false, IfSome, sym, subst, ◌∙◌}
 use Rattle.std.specs.List.{list_any}
 use Rattle.odb_tables.specs.Database.{Table, table_at}
-use Rattle.odb_tables.specs.Represented.Keeping.{LacksNothing, Suffices}
+use Rattle.odb_tables.specs.Represented.RowIndex.{LacksNothing, Suffices}
 use Rattle.odb_tables.proofs.Touching.{none-else, one-passes, passes_here}
 use Rattle.odb_tables.proofs.draft.Draft.has_any.Goals as goal
 

@@ -7,7 +7,7 @@ use Rattle.odb_atoms.specs.FinMap as finite
 use Rattle.odb_atoms.specs.Represented.Atom.{uuid_of}
 use Rattle.odb_atoms.specs.Uuid.{Uuid, uuid_cmp}
 use Rattle.odb_tables.specs.Database.{table_at}
-use Rattle.odb_tables.specs.Kept.{StaysApart, cells_at}
+use Rattle.odb_tables.specs.Indexed.{StaysApart, cells_at}
 use Rattle.odb_tables.proofs.Touching.{alike_untouched, keeps-changed, where_listed}
 use Rattle.odb_tables.proofs.draft.Draft.has_new_twins.Goals as goal
 
@@ -27,7 +27,7 @@ has_twins_among-requires c =
     let old = table_at c.args.self.now.old c.args.table in
     let now = table_at c.args.self.now.now c.args.table in
     let us = c.as_slice-touched.result.now in
-    keeps-changed c.in_ok-kept.kept old now (map uuid_of us) c.in_ok-kept.ensures
+    keeps-changed c.in_ok-index.index old now (map uuid_of us) c.in_ok-index.ensures
     (λ u absent. c.in_ok-listed.ensures.as_it_was u (ap (λ xs. list_any (eq_by_cmp uuid_cmp u) (map uuid_of xs)) (sym c.as_slice-touched.ensures.value) ∙ absent))
 
 pub returns-clause-apart : goal.returns-clause-apart

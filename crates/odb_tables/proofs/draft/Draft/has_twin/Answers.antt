@@ -4,7 +4,7 @@ use Rattle.std.specs.List.{list_any}
 use Rattle.odb_atoms.specs.FinMap as finite
 use Rattle.odb_atoms.specs.Represented.Atom.{uuid_of}
 use Rattle.odb_tables.specs.Database.{table_at}
-use Rattle.odb_tables.specs.Kept.{is_twin}
+use Rattle.odb_tables.specs.Indexed.{is_twin}
 use Rattle.odb_tables.proofs.draft.Draft.has_twin.Goals as goal
 
 pub returns : goal.returns

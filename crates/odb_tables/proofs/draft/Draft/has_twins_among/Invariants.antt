@@ -4,7 +4,7 @@ use Rattle.std.specs.Ordering.{eq_by_cmp}
 use Rattle.odb_atoms.specs.Represented.Atom.{uuid_of}
 use Rattle.odb_atoms.specs.Uuid.{Uuid, uuid_cmp}
 use Rattle.odb_tables.specs.Database.{table_at}
-use Rattle.odb_tables.specs.Kept.{StaysApart}
+use Rattle.odb_tables.specs.Indexed.{StaysApart}
 use Rattle.odb_tables.proofs.draft.Draft.has_twins_among.Given as goal
 
 abbrev pub invariant-loop-uuid : goal.invariant-loop-uuid

@@ -2,7 +2,7 @@ use Rattle.std.proofs.Common.{rules, ◌≡◌, Some, None, sym, ◌∙◌}
 use Rattle.odb_atoms.specs.FinMap as finite
 use Rattle.odb_atoms.specs.Represented.Atom.{uuid_of}
 use Rattle.odb_tables.specs.Database.{table_at}
-use Rattle.odb_tables.specs.Kept.{cells_at}
+use Rattle.odb_tables.specs.Indexed.{cells_at}
 use Rattle.odb_tables.proofs.Touching.{alike_gone, alike_row}
 use Rattle.odb_tables.proofs.draft.Draft.is_alike.Goals as goal
 

@@ -16,7 +16,7 @@ returns-in-Some c empty =
     let inside : k < length os = search rules in
     let at : o ≡ slice_index_or os k o = search rules in
     let none : o ≡ finite.empty = c.is_empty.ensures empty in
-    ap (λ (d : Draft). table_at d.now k) (sym c.self.view_is) ∙ same_untouched db os k c.self.invariant (sym (touched-is os k o inside at) ∙ none) ∙ ap (λ (d : Draft). table_at d.old k) c.self.view_is
+    ap (λ (d : Draft). table_at d.now k) (sym c.self.view_is) ∙ same_untouched db os k c.self.invariant.0 (sym (touched-is os k o inside at) ∙ none) ∙ ap (λ (d : Draft). table_at d.old k) c.self.view_is
 
 pub returns-in-None : goal.returns-in-None
 returns-in-None c _ =
@@ -24,4 +24,4 @@ returns-in-None c _ =
     let os : List Touched = c.self.inside.overlays.items in
     let k = c.args.table in
     let past : length os ≤ k = search rules in
-    ap (λ (d : Draft). table_at d.now k) (sym c.self.view_is) ∙ same_untouched db os k c.self.invariant (untouched-past os k past) ∙ ap (λ (d : Draft). table_at d.old k) c.self.view_is
+    ap (λ (d : Draft). table_at d.now k) (sym c.self.view_is) ∙ same_untouched db os k c.self.invariant.0 (untouched-past os k past) ∙ ap (λ (d : Draft). table_at d.old k) c.self.view_is

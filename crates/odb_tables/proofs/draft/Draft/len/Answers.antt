@@ -15,4 +15,4 @@ pub returns-clause-now : goal.returns-clause-now
 returns-clause-now c =
     let db : Db = grounds c.self.inside.base.now c.self.inside.under.now in
     let os : List Touched = c.self.inside.overlays.items in
-    c.len.ensures ∙ sym (length-grounds c.self.inside.base.now c.self.inside.under.now) ∙ sym (length-all_overlaid db os c.self.invariant) ∙ ap (λ (d : Draft). length d.now) c.self.view_is
+    c.len.ensures ∙ sym (length-grounds c.self.inside.base.now c.self.inside.under.now) ∙ sym (length-all_overlaid db os c.self.invariant.0) ∙ ap (λ (d : Draft). length d.now) c.self.view_is

@@ -5,13 +5,17 @@ use Rattle.odb_tables.specs.Database.{Db}
 use Rattle.odb_tables.specs.Draft.{draft_of}
 use Rattle.odb_tables.specs.Represented.Draft.{grounds}
 use Rattle.odb_tables.proofs.Drafts.{drafted-none}
+use Rattle.odb_tables.proofs.KeptColumns.{new-draft}
 use Rattle.odb_tables.proofs.Grounds.{length-grounds}
 use Rattle.odb_tables.proofs.draft.Draft.over.Goals as goal
 
 pub invariant_of-result : goal.invariant_of-result
 invariant_of-result c =
+    let db : Db = grounds c.base-base.result.now c.overlays.result.now in
     let all : c.in_ok-overlays.overlays.items ≡ replicate (length c.base-base.result.now) finite.empty = search rules in
-    ap length all ∙ length-replicate (length c.base-base.result.now) finite.empty ∙ sym (length-grounds c.base-base.result.now c.overlays.result.now)
+    let marks : length c.in_ok-changed.changed.items ≡ length c.base-base.result.now = search rules in
+    let long : length db ≡ length c.base-base.result.now = length-grounds c.base-base.result.now c.overlays.result.now in
+    new-draft db c.in_ok-overlays.overlays.items c.in_ok-changed.changed.items (all ∙ ap (λ n. replicate n finite.empty) (sym long)) (marks ∙ sym long)
 
 pub returns : goal.returns
 returns c =

@@ -5,7 +5,7 @@ use Rattle.odb_atoms.specs.Represented.Atom.{uuid_of}
 use Rattle.odb_atoms.specs.Row.{cell, declared}
 use Rattle.odb_atoms.specs.Uuid.{zero_uuid}
 use Rattle.odb_tables.specs.Database.{table_at}
-use Rattle.odb_tables.specs.Kept.{mentions}
+use Rattle.odb_tables.specs.Indexed.{mentions}
 use Rattle.odb_tables.proofs.Found.{matches}
 use Rattle.odb_tables.proofs.Twins.{mentions_now}
 use Rattle.odb_tables.proofs.draft.Draft.referrers.Goals as goal

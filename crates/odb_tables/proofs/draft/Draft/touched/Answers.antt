@@ -19,7 +19,7 @@ returns-in-Some-clause-as_it_was c =
     let os : List Touched = c.self.inside.overlays.items in
     let o : Touched = c.in-Some.overlay.now in
     let k = c.args.table in
-    let long : length os ≡ length db = c.self.invariant in
+    let long : length os ≡ length db = c.self.invariant.0 in
     let inside : k < length os = search rules in
     let at : o ≡ slice_index_or os k o = search rules in
     IfOk-weaker c.list.result _ _ (λ uuids listed u absent.
@@ -32,7 +32,7 @@ returns-in-None-clause-as_it_was c u absent =
     let db : Db = grounds c.self.inside.base.now c.self.inside.under.now in
     let os : List Touched = c.self.inside.overlays.items in
     let k = c.args.table in
-    let long : length os ≡ length db = c.self.invariant in
+    let long : length os ≡ length db = c.self.invariant.0 in
     let past : length os ≤ k = search rules in
     ap (λ (d : Draft). finite.get (table_at d.now k) u) (sym c.self.view_is)
     ∙ as_it_was db os k finite.empty u long (sym (untouched-past os k past)) (ap is_some (get-empty uuid_cmp u))

@@ -2,7 +2,7 @@ use Rattle.std.proofs.Common.{rules, ◌≡◌, true, None, slice_get, sym, ap, 
 use mathlib.Core.Bool.{true≢false}
 use mathlib.Core.Logic.{inr}
 use Rattle.std.proofs.lemmas.Result.{on_ok_weaker}
-use Rattle.odb_tables.specs.Kept.{cells_at}
+use Rattle.odb_tables.specs.Indexed.{cells_at}
 use Rattle.odb_tables.specs.Represented.Digest.{digest}
 use Rattle.odb_tables.specs.Represented.Pairs.{has}
 use Rattle.odb_tables.proofs.Facets.{none-mentioned, values-tagged}

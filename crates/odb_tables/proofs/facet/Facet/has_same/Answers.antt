@@ -1,6 +1,6 @@
 use Rattle.std.proofs.Common.{sym, ap, ◌∙◌}
 use Rattle.std.specs.List.{list_all}
-use Rattle.odb_tables.specs.Represented.Kept.{have_same_at}
+use Rattle.odb_tables.specs.Represented.RowTest.{have_same_at}
 use Rattle.odb_tables.proofs.Facets.{mentions-same, values-same}
 use Rattle.odb_tables.proofs.facet.Facet.has_same.Goals as goal
 

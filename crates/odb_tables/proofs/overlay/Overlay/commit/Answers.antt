@@ -15,7 +15,7 @@ use Rattle.odb_tables.proofs.overlay.Overlay.commit.Goals as goal
 pub new-requires : goal.new-requires
 new-requires c =
     let t = c.args.base.now in
-    let v = uuid_of c.args.version in
+    let v = uuid_of c.args.stamp.now.version in
     let es = map (shown row_of) c.self.inside.rows.entries in
     let none : c.loop-row.row-iterator ≡ [] = c.in-None.ensures.steps.0 in
     let items : c.loop-row.rows.items ≡ changes_of t (stamped_entries v t es) = sym (append-nil c.loop-row.rows.items) ∙ ap (λ left. c.loop-row.rows.items ++ changes_of t (stamped_entries v t (map (shown row_of) left))) (sym none) ∙ c.loop-row.invariant ∙ ap (λ all. changes_of t (stamped_entries v t (map (shown row_of) all))) c.into_iter-row-iterator.ensures.into_iter_gives.0 in
@@ -24,7 +24,7 @@ new-requires c =
 pub returns : goal.returns
 returns c =
     let t = c.args.base.now in
-    let v = uuid_of c.args.version in
+    let v = uuid_of c.args.stamp.now.version in
     let es = map (shown row_of) c.self.inside.rows.entries in
     let none : c.loop-row.row-iterator ≡ [] = c.in-None.ensures.steps.0 in
     let items : c.loop-row.rows.items ≡ changes_of t (stamped_entries v t es) = sym (append-nil c.loop-row.rows.items) ∙ ap (λ left. c.loop-row.rows.items ++ changes_of t (stamped_entries v t (map (shown row_of) left))) (sym none) ∙ c.loop-row.invariant ∙ ap (λ all. changes_of t (stamped_entries v t (map (shown row_of) all))) c.into_iter-row-iterator.ensures.into_iter_gives.0 in

@@ -8,5 +8,5 @@ use Rattle.odb_tables.proofs.overlay.Overlay.commit.Given as goal
 
 abbrev pub invariant-loop-row : goal.invariant-loop-row
 invariant-loop-row l =
-    l.rows.items ++ changes_of l.base (stamped_entries (uuid_of l.version) l.base (map (shown row_of) l.row-iterator))
-    ≡ changes_of l.base (stamped_entries (uuid_of l.version) l.base (map (shown row_of) l.initial.row-iterator))
+    l.rows.items ++ changes_of l.base (stamped_entries (uuid_of l.stamp.version) l.base (map (shown row_of) l.row-iterator))
+    ≡ changes_of l.base (stamped_entries (uuid_of l.stamp.version) l.base (map (shown row_of) l.initial.row-iterator))

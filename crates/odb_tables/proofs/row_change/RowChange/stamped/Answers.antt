@@ -13,7 +13,7 @@ Pair = Option Row × Option Row
 
 pub returns-then-have_same_columns : goal.returns-then-have_same_columns
 returns-then-have_same_columns c =
-    let v = uuid_of c.args.version in
+    let v = uuid_of c.args.stamp.now.version in
     let o : Option Row = row_of (option_copied c.args.old) in
     let n : Option Row = row_of c.args.new in
     let told : c.have_same_columns.result ≡ not (is_some (changed_row o (option_map (stamped_row v o) n))) = c.have_same_columns.ensures v ∙ ap (λ x. not (is_some (changed_row o (option_map (stamped_row v o) (row_of x))))) c.as_ref.ensures.value in
@@ -21,7 +21,7 @@ returns-then-have_same_columns c =
 
 pub returns : goal.returns
 returns c =
-    let v = uuid_of c.args.version in
+    let v = uuid_of c.args.stamp.now.version in
     let o : Option Row = row_of (option_copied c.args.old) in
     let n : Option Row = row_of c.args.new in
     let told : c.have_same_columns.result ≡ not (is_some (changed_row o (option_map (stamped_row v o) n))) = c.have_same_columns.ensures v ∙ ap (λ x. not (is_some (changed_row o (option_map (stamped_row v o) (row_of x))))) c.as_ref.ensures.value in

@@ -2,7 +2,7 @@ use Rattle.std.proofs.Common.{rules, ◌≡◌, true, not, ◌&&◌, sym, ap, �
 use Rattle.odb_atoms.specs.Represented.Atom.{uuid_of}
 use Rattle.odb_atoms.specs.Uuid.{same_uuid}
 use Rattle.odb_atoms.specs.Value.{same_values}
-use Rattle.odb_tables.specs.Kept.{cells_at}
+use Rattle.odb_tables.specs.Indexed.{cells_at}
 use Rattle.odb_tables.proofs.Twins.{same_cells}
 use Rattle.odb_tables.proofs.row_test.TwinsTest.passes.Goals as goal
 

@@ -1,6 +1,6 @@
 use Rattle.std.proofs.Common.{rules, ◌≡◌, sym, ap, ◌∙◌}
 use Rattle.odb_atoms.specs.Represented.Atom.{uuid_of}
-use Rattle.odb_tables.specs.Kept.{cells_at}
+use Rattle.odb_tables.specs.Indexed.{cells_at}
 use Rattle.odb_tables.specs.Represented.Digest.{digest}
 use Rattle.odb_tables.proofs.Facets.{twin-cells, values-tag}
 use Rattle.odb_tables.proofs.row_test.TwinsTest.tag.Goals as goal

@@ -10,7 +10,7 @@ use Rattle.odb_cond.specs.Represented.Filter.{member_of}
 use Rattle.odb_cond.specs.Represented.Prepared.{some_holds}
 use Rattle.odb_cond.specs.declared.filter.Member.{Member}
 use Rattle.odb_tables.specs.Database.{Table}
-use Rattle.odb_tables.specs.Represented.Keeping.{Covers}
+use Rattle.odb_tables.specs.Represented.RowIndex.{Covers}
 use Rattle.odb_tables.proofs.Covering.{covers, next_covered}
 use Rattle.odb_tables.proofs.Steps.{front}
 use Rattle.odb_tables.proofs.rows.Rows.candidates_of.Goals as goal

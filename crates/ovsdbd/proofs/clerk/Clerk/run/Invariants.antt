@@ -4,4 +4,4 @@ use Rattle.ovsdbd.proofs.clerk.Clerk.run.Given as goal
 
 abbrev pub invariant-loop : goal.invariant-loop
 invariant-loop g l =
-    (goal.iterator-loop g).can_next l.iterator' × (goal.iterator-loop g).is_finite l.iterator' × (l.place ≡ loops.begins)
+    (goal.iterator-loop g).can_next l.iterator' × (goal.iterator-loop g).is_finite l.iterator' × (l.stage ≡ loops.begins)

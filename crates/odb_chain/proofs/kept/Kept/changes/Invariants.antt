@@ -1,7 +1,0 @@
-use Rattle.std.proofs.Common.{◌≡◌, map}
-use Rattle.odb_chain.proofs.Noted.{named, sides}
-use Rattle.odb_tables.proofs.Leading.{changes_of}
-use Rattle.odb_chain.proofs.kept.Kept.changes.Given as goal
-
-abbrev pub invariant-loop-key : goal.invariant-loop-key
-invariant-loop-key l = l.rows.items ≡ changes_of (sides l.place l.table l.self.rows) (map (λ k. named l.place l.table l.self.rows k.now) l.yielded)
