@@ -20,26 +20,24 @@ STEPS = re.compile(r"\b[Ss]teps?:? (`.*|(?:those of|what) .*)")
 TWICE = {
     "Change": "odb_request: of a filter; odb_monitor: of a row",
     "Key": "odb_interest: by what a session is looked up; odb_tables: an identifier in a hash map",
-    "Kind": "odb_request: a notation of updates; odb_atoms: an atomic type",
     "Reference": "odb_integrity: with the column that makes it; odb_atoms: as the type has it",
-    "Rows": "odb_ops: rows that are printed; odb_tables: rows of a table",
     "Select": "odb_request: kinds of change (RFC 7047, 4.1.5, <monitor-select>); odb_json: the operation (5.2.2)",
 }
 
 # Names in documents that are the toolchain's.
 OF_THE_TOOLCHAIN = {"after_borrow": "of std's io, in a proof"}
 
-# Steps, and places at which one goes on, that no comment and no contract of the code names, and why.
+# Steps, and stages at which one goes on, that no comment and no contract of the code names, and why.
 UNNAMED = {
-    "goes_on": "the pump's next step: comments name the place",
-    "loop_goes_on": "the loop's next step: comments name the place",
+    "goes_on": "the pump's next step: comments name the stage",
+    "loop_goes_on": "the loop's next step: comments name the stage",
     "peer_takes": "the peer's",
     "peer_sends": "the peer's",
     "peer_ends": "the peer's",
     "peer_goes": "the peer's",
     "calls_another": "of another session, what `giver_goes_on` is of this one",
-    "owes": "whatever a turn of the lock makes owed",
-    "nears": "whatever a turn of the lock makes due sooner",
+    "owes": "whatever a hold of the lock makes owed",
+    "nears": "whatever a hold of the lock makes due sooner",
     "gives_all": "any round that gives all that is owed",
     "flushes": "no comment has it yet: `Ring::flush`",
     "meets_busy": "no comment has it yet: a submit that is answered Busy",
@@ -129,14 +127,14 @@ def nowhere():
 
 
 def steps():
-    """The steps of the machines of odb_waking, and the places at which a thread goes on."""
+    """The steps of the machines of odb_waking, and the stages at which a thread goes on."""
     for path in files(["crates/odb_waking/specs/*.antt"]):
-        for found in re.finditer(r"^pub data (?:Step|Place) .*\n((?:  .*\n)+)", read_text(path), re.M):
+        for found in re.finditer(r"^pub data (?:Step|Stage) .*\n((?:  .*\n)+)", read_text(path), re.M):
             yield from re.findall(r"^  (\w+) :", found[1], re.M)
 
 
 def named_steps():
-    """The names in the comments `Step: ..` and `Steps: ..` of the threads' code, and the places that its contracts ask for."""
+    """The names in the comments `Step: ..` and `Steps: ..` of the threads' code, and the stages that its contracts ask for."""
     for path in files(["crates/ovsdbd/src/**/*.rt", "crates/odb_hub/src/**/*.rt", "crates/odb_waking/src/**/*.rt"]):
         text = read_text(path)
         if "odb_waking.specs" in text:
