@@ -1,8 +1,7 @@
 -- Each atom meets constraints that aren't there.
-use Rattle.std.specs.Prelude.{◌≡◌, ℕ, ℤ, pos, int_le, Bool, true, false, ◌&&◌, List, [], ◌∷◌, chars, length, is_none, Option, Some, None}
-use mathlib.Core.Path.{refl, sym, ap, ◌∙◌}
+use Rattle.std.specs.Prelude.{◌≡◌, ℤ, pos, int_le, Bool, true, false, ◌&&◌, List, [], ◌∷◌, chars, length, is_none, Option, Some, None}
+use mathlib.Core.Path.{refl, sym}
 use mathlib.Core.Bool.{true≢false}
-use Rattle.std.specs.List.{list_all}
 use Rattle.odb_atoms.specs.Atom.{Atom, boolean, integer, text, uuid}
 use Rattle.odb_atoms.specs.ColType.{Base, at_least, at_most, in_bounds, in_enum, is_free, meets}
 use Rattle.odb_atoms.specs.Value.{Atoms}

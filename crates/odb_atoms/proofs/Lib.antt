@@ -1,4 +1,5 @@
 pub mod Atoms
+pub mod Chunks
 pub mod Differences
 pub mod EachEntry
 pub mod Equal
@@ -6,9 +7,11 @@ pub mod Examples
 pub mod FinMaps
 pub mod FinSets
 pub mod Free
+pub mod KindOrder
 pub mod Lists
 pub mod Merges
 pub mod Represented
+pub mod Parted
 pub mod Rising
 pub mod Runs
 pub mod Sorts

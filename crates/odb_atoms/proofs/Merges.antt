@@ -9,7 +9,7 @@ use Rattle.std.specs.List.{list_all}
 use Rattle.std.specs.Cmp.{alike_right, tied_back}
 use Rattle.std.specs.FinMap.Entries.{below_all, by_order}
 use Rattle.odb_atoms.specs.Atom.{Atom, atom_cmp}
-use Rattle.odb_atoms.specs.Represented.Entry.{Entry, IsChange, IsRising, alike, changed_value, entry_at, has_entry, is_alike}
+use Rattle.odb_atoms.specs.Represented.Entry.{Entry, IsChange, IsRising, against, alike, changed_value, entry_at, has_entry, is_alike, merged}
 use Rattle.odb_atoms.specs.Represented.AtomOrder.{atom_cmp_total}
 use Rattle.odb_atoms.proofs.Rising.{before_all, both, equal, find-below, first, is_less, less, second, tied_before_all, turned}
 
@@ -62,22 +62,11 @@ module _ (p : Bool → Bool) (xs ws : List Entry) (x w : Entry) (es vs : List En
   pub passes-greater : atom_cmp x.0 w.0 ≡ Greater → passes p xs ws ≡ (p false && passes p xs vs)
   passes-greater after = opened _ (all_greater p x es w vs after (subst IsRising is_xs up_xs)) ∙ ap (λ zs. p false && passes p zs vs) (sym is_xs)
 
-pub passes-nothing : {X : Type 0} (f : X → Entry) (xs : List X) (ws : List Entry) → length xs < 1 → passes not (map f xs) ws ≡ true
-passes-nothing f [] [] short = refl
-passes-nothing f [] (w ∷ ws) short = passes-nothing f [] ws short
-passes-nothing f (x ∷ xs) ws short = absurd (omega arith)
+pub passes-nothing : (ws : List Entry) → passes not [] ws ≡ true
+passes-nothing [] = refl
+passes-nothing (w ∷ ws) = passes-nothing ws
 
 -- ---- what differs
-
--- x and what follows it, against a second list; `rest` says what becomes of what follows
-abbrev pub against : Entry → List Entry → (List Entry → List Entry) → List Entry → List Entry
-against x xs rest [] = x ∷ xs
-against x xs rest (y ∷ ys) = by_order (atom_cmp x.0 y.0) (x ∷ rest (y ∷ ys)) (cond (alike x.1 y.1) (rest ys) (y ∷ rest ys)) (y ∷ against x xs rest ys)
-
--- the entries by which two rising lists differ
-abbrev pub merged : List Entry → List Entry → List Entry
-merged [] ys = ys
-merged (x ∷ xs) ys = against x xs (merged xs) ys
 
 pub merged-nothing : (xs : List Entry) → merged xs [] ≡ xs
 merged-nothing [] = refl

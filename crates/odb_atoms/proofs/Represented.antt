@@ -5,3 +5,4 @@ pub mod Entries
 pub mod Orders
 pub mod Types
 pub mod Undone
+pub mod Merged

@@ -1,19 +1,17 @@
 -- Runs of entries at the front of a rising list, whose keys are less than another key.
-use Rattle.std.specs.Prelude.{◌≡◌, ℕ, zero, suc, ◌<◌, ◌≤◌, Bool, true, false, ◌&&◌, T, List, [], ◌∷◌, ◌++◌, length, map, get_or, take, drop, ◌-◌}
+use Rattle.std.specs.Prelude.{◌≡◌, ℕ, zero, suc, ◌<◌, ◌≤◌, Bool, T, List, [], ◌∷◌, ◌++◌, length, map, get_or, take, drop}
 use mathlib.Core.Path.{refl, sym, ap, subst, ◌∙◌}
-use mathlib.Core.Bool.{true≢false}
 use Rattle.std.proofs.Common.{append_assoc, arith}
 use Rattle.std.specs.declared.cmp.Ordering.{Ordering}
 use Rattle.std.specs.declared.cmp.Ordering.TheVariants.{Less, Equal, Greater}
 use Rattle.std.specs.Ordering.{is_lt, ordering_reverse}
 use Rattle.std.specs.List.{HoldsAt, list_all}
 use Rattle.std.specs.Cmp.{IsTotalOrder}
-use Rattle.std.proofs.lemmas.List.{take_all}
-use Rattle.std.specs.FinMap.Entries.{is_sorted}
+use Rattle.std.proofs.lemmas.List.{length-drop, take-append-le}
 use Rattle.std.specs.List.Sorted.{IsPartitionPoint}
 use Rattle.odb_atoms.specs.Atom.{Atom, atom_cmp}
-use Rattle.odb_atoms.specs.Represented.Entry.{AreBefore, CopiesRun, Entry, IsFirstBefore, IsRising}
-use Rattle.odb_atoms.proofs.Merges.{merged, merged-greater, merged-less}
+use Rattle.odb_atoms.specs.Represented.Entry.{AreBefore, CopiesRun, Entry, IsFirstBefore, IsRising, merged}
+use Rattle.odb_atoms.proofs.Merges.{merged-greater, merged-less}
 use Rattle.odb_atoms.specs.Represented.AtomOrder.{atom_cmp_total}
 use Rattle.odb_atoms.proofs.Rising.{both, first, front, is_less, less, not_below_tied, second}
 
@@ -88,45 +86,58 @@ after_run run left whole is up = by run left (subst IsRising is up)
     by (x ∷ run) left up = by run left (second _ _ up)
 
 module _ {X : Type 0} (f : X → Entry) where
-  cut : (xs : List X) (n : ℕ) → n ≤ length xs → map f xs ≡ take n (map f xs) ++ map f (take (length xs - n) (drop n xs))
-  cut xs zero low = ap (map f) (sym (take_all (length xs - 0) xs (omega arith)))
-  cut [] (suc n) low = absurd (omega arith)
-  cut (x ∷ xs) (suc n) low = ap (λ zs. f x ∷ zs) (cut xs n (omega arith) ∙ ap (λ m. take n (map f xs) ++ map f (take m (drop n xs))) (omega arith))
-
   map-take : (xs : List X) (n : ℕ) → map f (take n xs) ≡ take n (map f xs)
   map-take xs zero = refl
   map-take [] (suc n) = refl
   map-take (x ∷ xs) (suc n) = ap (λ zs. f x ∷ zs) (map-take xs n)
 
-  pub copied_run : (k : Atom) (xs : List X) (n : ℕ) (before after : List Entry) → n ≤ length xs → AreBefore (take n (map f xs)) k → after ≡ before ++ map f (take n xs) → CopiesRun k (map f xs) (map f (take (length xs - n) (drop n xs))) before after
-  copied_run k xs n before after low less is = record {
-    run = take n (map f xs);
-    front = cut xs n low;
-    less = less;
-    appended = is ∙ ap (λ zs. before ++ zs) (map-take xs n);
-  }
+  cut : (xs : List X) (n : ℕ) → map f xs ≡ map f (take n xs) ++ map f (drop n xs)
+  cut xs zero = refl
+  cut [] (suc n) = refl
+  cut (x ∷ xs) (suc n) = ap (λ zs. f x ∷ zs) (cut xs n)
 
-  pub first_before : (k : Atom) (xs : List X) (x : X) → 1 ≤ length xs → x ≡ get_or xs 0 x → atom_cmp (f x).0 k ≡ Less → IsFirstBefore (map f xs) k
-  first_before k [] x long is before = absurd (omega (arith, long))
-  first_before k (y ∷ xs) x long is before = (both _ _ (is_less (ap (λ z. atom_cmp (f z).0 k) (sym is) ∙ before)) tt, omega arith)
+  -- where a run of the slice at the front is copied, and passed over
+  pub copied_run : (k : Atom) (xs front more left : List X) (n : ℕ) (before after : List Entry) → xs ≡ front ++ more → n ≤ length front → left ≡ drop n xs → AreBefore (take n (map f front)) k → after ≡ before ++ map f (take n front) → CopiesRun k (map f xs) (map f left) before after
+  copied_run k xs front more left n before after is low is_left less is_after =
+      let same : take n xs ≡ take n front = ap (take n) is ∙ take-append-le n front more low in
+      record {
+        run = take n (map f front);
+        front = cut xs n ∙ (λ i. map f (same i) ++ map f (sym is_left i)) ∙ ap (λ zs. zs ++ map f left) (map-take front n);
+        less = less;
+        appended = is_after ∙ ap (λ zs. before ++ zs) (map-take front n);
+      }
+
+  pub first_in_front : (k : Atom) (xs front more : List X) → xs ≡ front ++ more → (front ≡ [] → xs ≡ []) → IsFirstBefore (map f xs) k → IsFirstBefore (map f front) k
+  first_in_front k xs [] more is all h = absurd (none (ap (map f) (all refl)) h.1)
+    where
+      none : {es : List Entry} → es ≡ [] → 1 ≤ length es → ⊥
+      none e long = omega (arith, subst (λ es. 1 ≤ length es) e long)
+  first_in_front k xs (x ∷ front) more is all h = (subst (λ es. AreBefore (take 1 es) k) (ap (map f) is) h.0, omega arith)
+
+  pub fewer_left : (k : Atom) (xs left : List X) (n : ℕ) → 1 ≤ n → left ≡ drop n xs → IsFirstBefore (map f xs) k → length left < length xs
+  fewer_left k [] left n some is h = absurd (omega (arith, h.1))
+  fewer_left k (x ∷ xs) left n some is h = subst (λ ys. length ys < length (x ∷ xs)) (sym is) (subst (λ m. m < length (x ∷ xs)) (sym (length-drop n (x ∷ xs))) (omega (arith, some)))
+
+  pub first_before : (k : Atom) (xs : List X) (x : X) → xs ≡ x ∷ drop 1 xs → atom_cmp (f x).0 k ≡ Less → IsFirstBefore (map f xs) k
+  first_before k xs x is before = subst (λ es. IsFirstBefore es k) (sym (ap (map f) is)) (both _ _ (is_less before) tt, omega arith)
 
   pub run_rises : (k : Atom) (xs left : List X) (before after : List Entry) → CopiesRun k (map f xs) (map f left) before after → IsRising (map f xs) → IsRising (map f left)
   run_rises k xs left before after copies up = after_run copies.run (map f left) (map f xs) copies.front up
 
   -- the step of a merge in which the first list goes on by a run, and that in which the second does
-  pub step_less : (xs left ns : List X) (n : X) (before after whole : List Entry) → 1 ≤ length ns → n ≡ get_or ns 0 n → CopiesRun (f n).0 (map f xs) (map f left) before after → before ++ merged (map f xs) (map f ns) ≡ whole → after ++ merged (map f left) (map f ns) ≡ whole
-  step_less xs left ns n before after whole long is copies was =
-      let ms : List Entry = map f (take (length ns - 1) (drop 1 ns)) in
-      subst (λ ys. before ++ merged (map f xs) (map f ys) ≡ whole → after ++ merged (map f left) (map f ys) ≡ whole) (sym (front ns n long is)) (λ was.
+  pub step_less : (xs left ns : List X) (n : X) (before after whole : List Entry) → ns ≡ n ∷ drop 1 ns → CopiesRun (f n).0 (map f xs) (map f left) before after → before ++ merged (map f xs) (map f ns) ≡ whole → after ++ merged (map f left) (map f ns) ≡ whole
+  step_less xs left ns n before after whole is copies was =
+      let ms : List Entry = map f (drop 1 ns) in
+      subst (λ ys. before ++ merged (map f xs) (map f ys) ≡ whole → after ++ merged (map f left) (map f ys) ≡ whole) (sym is) (λ was.
       ap (λ zs. zs ++ merged (map f left) (f n ∷ ms)) copies.appended
       ∙ append_assoc before copies.run (merged (map f left) (f n ∷ ms))
       ∙ ap (λ zs. before ++ zs) (sym (run_less copies.run (map f left) (f n) ms copies.less) ∙ ap (λ zs. merged zs (f n ∷ ms)) (sym copies.front))
       ∙ was) was
 
-  pub step_greater : (xs ns left : List X) (x : X) (before after whole : List Entry) → 1 ≤ length xs → x ≡ get_or xs 0 x → CopiesRun (f x).0 (map f ns) (map f left) before after → before ++ merged (map f xs) (map f ns) ≡ whole → after ++ merged (map f xs) (map f left) ≡ whole
-  step_greater xs ns left x before after whole long is copies was =
-      let ms : List Entry = map f (take (length xs - 1) (drop 1 xs)) in
-      subst (λ ys. before ++ merged (map f ys) (map f ns) ≡ whole → after ++ merged (map f ys) (map f left) ≡ whole) (sym (front xs x long is)) (λ was.
+  pub step_greater : (xs ns left : List X) (x : X) (before after whole : List Entry) → xs ≡ x ∷ drop 1 xs → CopiesRun (f x).0 (map f ns) (map f left) before after → before ++ merged (map f xs) (map f ns) ≡ whole → after ++ merged (map f xs) (map f left) ≡ whole
+  step_greater xs ns left x before after whole is copies was =
+      let ms : List Entry = map f (drop 1 xs) in
+      subst (λ ys. before ++ merged (map f ys) (map f ns) ≡ whole → after ++ merged (map f ys) (map f left) ≡ whole) (sym is) (λ was.
       ap (λ zs. zs ++ merged (f x ∷ ms) (map f left)) copies.appended
       ∙ append_assoc before copies.run (merged (f x ∷ ms) (map f left))
       ∙ ap (λ zs. before ++ zs) (sym (run_greater (f x) ms copies.run (map f left) copies.less) ∙ ap (merged (f x ∷ ms)) (sym copies.front))

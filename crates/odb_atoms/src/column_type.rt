@@ -12,6 +12,7 @@ ghost use Rattle.odb_atoms.specs.Represented.ColType.{base_of, reference_of, ref
 
 use crate::atom::{Atom, Kind};
 use crate::value::{self, Entries, Value};
+use odb_chunks::Items;
 use std::alloc::{AllocError, Global};
 use std::marker::Model;
 use thiserror::Error;
@@ -317,9 +318,9 @@ impl Value {
         ensures { result ≡ model.has_kind (type_of column.now) self.now }
     {
         match (self.entries(), &column.value) {
-            (Entries::Set(elements), None) => value::are_all_a(elements, column.key.kind),
+            (Entries::Set(elements), None) => value::are_within(&elements, column.key.kind),
             (Entries::Map(pairs), Some(value)) => value::are_all_pairs_of(
-                pairs,
+                &pairs,
                 column.key.kind,
                 value.kind,
             ),
@@ -331,10 +332,10 @@ impl Value {
         ensures { result ≡ model.meets_constraints (type_of column.now) self.now }
     {
         match self.entries() {
-            Entries::Set(elements) => all_meet(elements, &column.key),
+            Entries::Set(elements) => all_meet(&elements, &column.key),
             Entries::Map(pairs) => {
                 let value = column.value.as_ref().unwrap_or(&column.key);
-                all_pairs_meet(pairs, &column.key, value)
+                all_pairs_meet(&pairs, &column.key, value)
             }
         }
     }
@@ -359,7 +360,7 @@ pub fn default_of(alloc: Global, column: &ColType) -> Result<Value, AllocError>
     }
 }
 
-fn all_meet(elements: &[Atom], base: &Base) -> bool
+fn all_meet(elements: &Items<'_, Atom>, base: &Base) -> bool
     ensures { result ≡ each_element (model.meets (base_of base.now)) elements.now }
 {
     if base.is_free() {
@@ -368,7 +369,7 @@ fn all_meet(elements: &[Atom], base: &Base) -> bool
     elements.iter().all(|atom| base.meets(atom))
 }
 
-fn all_pairs_meet(pairs: &[(Atom, Atom)], key: &Base, value: &Base) -> bool
+fn all_pairs_meet(pairs: &Items<'_, (Atom, Atom)>, key: &Base, value: &Base) -> bool
     ensures { result
         ≡ each_pair (model.meets (base_of key.now)) (model.meets (base_of value.now)) pairs.now }
 {

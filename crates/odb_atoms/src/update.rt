@@ -5,10 +5,13 @@ ghost use Rattle.std.specs.Prelude.{◌≡◌, IfOk};
 ghost use Rattle.odb_atoms.specs.Difference as model;
 ghost use Rattle.odb_atoms.specs.Value.{is_map};
 ghost use Rattle.odb_atoms.specs.Represented.ColType.{type_of};
+ghost use Rattle.odb_atoms.specs.Represented.Value.{AreAscending, HaveAscendingKeys, map_in, set_in};
 
+use crate::atom::Atom;
 use crate::column_type::ColType;
 use crate::entry;
 use crate::value::{Entries, Value};
+use odb_chunks::Items;
 use std::alloc::{AllocError, Global};
 
 /// Returns what leads from the old value of a column to the new one (ovsdb-server(7), "update2
@@ -64,19 +67,56 @@ impl Value {
 
 /// Returns the elements that are in exactly one of two sets, or the pairs by which two maps differ: those whose
 /// key one alone has, and where both have the key with other values the second's. Of a set and a map it is
-/// the second. O(m + n), and the bytes copied.
+/// the second. O(m + n), and the bytes copied; where the second has less than a sixteenth of the first's entries, and that has
+/// 512 or more, O(m + n / 256 + m log n) for m of the second and n of the first, once the first came of such a call.
 pub fn changed(alloc: Global, left: &Value, right: &Value) -> Result<Value, AllocError>
     ensures { IfOk result (λ d. d ≡ model.changed left.now right.now) }
 {
     match (left.entries(), right.entries()) {
         (Entries::Set(old), Entries::Set(new)) => {
-            let elements = entry::changed(alloc, old, new)?;
-            Ok(Value::of_elements(elements))
+            let Some(chunks) = left.element_chunks() else {
+                return changed_elements(alloc, &old, &new);
+            };
+            let Some(few) = entry::few_for(old.len(), chunks.len(), &new) else {
+                return changed_elements(alloc, &old, &new);
+            };
+            Value::of_element_chunks(alloc, entry::changed_in_chunks(alloc, chunks, few)?)
         }
         (Entries::Map(old), Entries::Map(new)) => {
-            let pairs = entry::changed(alloc, old, new)?;
-            Ok(Value::of_pairs(pairs))
+            let Some(chunks) = left.pair_chunks() else {
+                return changed_pairs(alloc, &old, &new);
+            };
+            let Some(few) = entry::few_for(old.len(), chunks.len(), &new) else {
+                return changed_pairs(alloc, &old, &new);
+            };
+            Value::of_pair_chunks(alloc, entry::changed_in_chunks(alloc, chunks, few)?)
         }
         _ => right.try_copy(alloc),
     }
+}
+
+/// Makes the set of the elements that are in exactly one of two sets.
+fn changed_elements(
+    alloc: Global,
+    old: &Items<'_, Atom>,
+    new: &Items<'_, Atom>,
+) -> Result<Value, AllocError>
+    requires old { AreAscending old.now }
+    requires new { AreAscending new.now }
+    ensures { IfOk result (λ d. d ≡ model.changed (set_in old.now) (set_in new.now)) }
+{
+    Ok(Value::of_elements(entry::changed(alloc, old, new)?))
+}
+
+/// Makes the map of the pairs by which two maps differ.
+fn changed_pairs(
+    alloc: Global,
+    old: &Items<'_, (Atom, Atom)>,
+    new: &Items<'_, (Atom, Atom)>,
+) -> Result<Value, AllocError>
+    requires old { HaveAscendingKeys old.now }
+    requires new { HaveAscendingKeys new.now }
+    ensures { IfOk result (λ d. d ≡ model.changed (map_in old.now) (map_in new.now)) }
+{
+    Ok(Value::of_pairs(entry::changed(alloc, old, new)?))
 }

@@ -1,7 +1,7 @@
 //! Values of columns (RFC 7047, section 5.1, `<value>`): sets and maps of atoms. [P 2.1]
 
-ghost use Rattle.std.specs.Prelude.{◌≡◌, ◌==◌, ◌∷◌, [], map, option_map, refl, Some};
-ghost use Rattle.std.specs.Prelude.{IfErr, IfOk, IsPermutation};
+ghost use Rattle.std.specs.Prelude.{◌≡◌, ◌==◌, ◌∷◌, [], drop, map, option_map, refl, Some};
+ghost use Rattle.std.specs.Prelude.{IfErr, IfOk, IfSome, IsPermutation};
 ghost use Rattle.std.specs.Ordering.{eq_by_cmp};
 ghost use Rattle.odb_atoms.specs.FinSet as set;
 ghost use Rattle.odb_atoms.specs.FinMap as finite;
@@ -13,7 +13,8 @@ ghost use Rattle.odb_atoms.specs.Value.{atoms, map_of, set_of, value_code};
 ghost use Rattle.odb_atoms.specs.ColType.{is_a};
 ghost use Rattle.odb_atoms.specs.Represented.Atom.{atom_of, kind_in};
 ghost use Rattle.odb_atoms.specs.Represented.Value.{AreAscending, AreInOrder, HaveAscendingKeys, ascends, content_of};
-ghost use Rattle.odb_atoms.specs.Represented.Value.{Lists, each_element, each_pair, map_in, pair_of};
+ghost use Rattle.odb_atoms.specs.Represented.Value.{HasElements, HasPairs, Lists, each_element, each_pair, map_in, pair_of};
+ghost use Rattle.odb_chunks.specs.Represented.Chunks.{items_in, AreFilled};
 ghost use Rattle.odb_atoms.specs.Represented.Value.{set_in, value_in};
 ghost use Rattle.odb_atoms.specs.Represented.Refused.{refusal_of};
 ghost use Rattle.odb_atoms.specs.Represented.ValueOrder.{values_equivalent, values_partial};
@@ -21,6 +22,7 @@ ghost use Rattle.odb_atoms.specs.Represented.ValueOrder.{values_partially_equiva
 
 use crate::atom::{Atom, Kind};
 use crate::entry::{self, SHARED};
+use odb_chunks::{ChunkedList, Items};
 use std::alloc::{AllocError, Global};
 use std::cmp::Ordering;
 use std::marker::Model;
@@ -33,7 +35,9 @@ use thiserror::Error;
 ///
 /// A value of one atom takes no memory beside its text; any other keeps its entries in one
 /// allocation. From 16 entries on its copies share them, and the last of these drops them: where
-/// they lie is one allocation more. A `Value` itself is 40 bytes.
+/// they lie is one allocation more. What a change makes of a value of 512 entries or more lies in
+/// chunks of at most 256, of which the two have those in common in which nothing changed. A `Value`
+/// itself is 40 bytes.
 #[derive(Drop)]
 pub struct Value {
     content: Content,
@@ -74,16 +78,18 @@ enum Content {
     Map(Vec<(Atom, Atom)>),
     SharedSet(Arc<Vec<Atom>>),
     SharedMap(Arc<Vec<(Atom, Atom)>>),
+    ChunkedSet(Arc<ChunkedList<Atom>>),
+    ChunkedMap(Arc<ChunkedList<(Atom, Atom)>>),
 }
 
 /// The entries of a value in ascending order: the elements of a set, or the pairs of a map by their
 /// keys.
-#[derive(Clone, Copy)]
+#[derive(Drop)]
 pub enum Entries<'a> {
     /// The elements of a set.
-    Set(&'a [Atom]),
+    Set(Items<'a, Atom>),
     /// The pairs of a map: the key, and its value.
-    Map(&'a [(Atom, Atom)]),
+    Map(Items<'a, (Atom, Atom)>),
 }
 
 impl Model for Value {
@@ -191,6 +197,62 @@ impl Value {
         }
     }
 
+    /// Makes the set of ascending elements in chunks.
+    pub(crate) fn of_element_chunks(
+        alloc: Global,
+        elements: ChunkedList<Atom>,
+    ) -> Result<Value, AllocError>
+        requires { AreAscending elements }
+        ensures { IfOk result (λ v. v ≡ set_in elements) }
+    {
+        match Arc::new(alloc, elements) {
+            Ok(elements) => Ok(Value {
+                content: Content::ChunkedSet(elements),
+            }),
+            Err(_) => Err(AllocError),
+        }
+    }
+
+    /// Makes the map of pairs in chunks, whose keys ascend.
+    pub(crate) fn of_pair_chunks(
+        alloc: Global,
+        pairs: ChunkedList<(Atom, Atom)>,
+    ) -> Result<Value, AllocError>
+        requires { HaveAscendingKeys pairs }
+        ensures { IfOk result (λ v. v ≡ map_in pairs) }
+    {
+        match Arc::new(alloc, pairs) {
+            Ok(pairs) => Ok(Value {
+                content: Content::ChunkedMap(pairs),
+            }),
+            Err(_) => Err(AllocError),
+        }
+    }
+
+    /// Returns the chunks that the elements of a set lie in, where copies share these. O(1).
+    pub(crate) fn element_chunks(&self) -> Option<&[Arc<Vec<Atom>>]>
+        ensures elements { IfSome result (λ chunks. HasElements (items_in chunks.now) self.now) }
+        ensures filled { IfSome result (λ chunks. AreFilled (drop 1 chunks.now)) }
+    {
+        match &self.content {
+            Content::SharedSet(elements) => Some(slice::from_ref(elements)),
+            Content::ChunkedSet(elements) => Some(elements.chunks()),
+            _ => None,
+        }
+    }
+
+    /// Returns the chunks that the pairs of a map lie in, where copies share these. O(1).
+    pub(crate) fn pair_chunks(&self) -> Option<&[Arc<Vec<(Atom, Atom)>>]>
+        ensures pairs { IfSome result (λ chunks. HasPairs (items_in chunks.now) self.now) }
+        ensures filled { IfSome result (λ chunks. AreFilled (drop 1 chunks.now)) }
+    {
+        match &self.content {
+            Content::SharedMap(pairs) => Some(slice::from_ref(pairs)),
+            Content::ChunkedMap(pairs) => Some(pairs.chunks()),
+            _ => None,
+        }
+    }
+
     /// Makes the map of pairs whose keys ascend.
     pub(crate) fn of_pairs(pairs: Vec<(Atom, Atom)>) -> Value
         requires { HaveAscendingKeys pairs.items }
@@ -209,11 +271,13 @@ impl Value {
         ensures in_order { AreInOrder result }
     {
         match &self.content {
-            Content::One(atom) => Entries::Set(slice::from_ref(atom)),
-            Content::Set(elements) => Entries::Set(elements.as_slice()),
-            Content::Map(pairs) => Entries::Map(pairs.as_slice()),
-            Content::SharedSet(elements) => Entries::Set(elements.as_slice()),
-            Content::SharedMap(pairs) => Entries::Map(pairs.as_slice()),
+            Content::One(atom) => Entries::Set(Items::of(slice::from_ref(atom))),
+            Content::Set(elements) => Entries::Set(Items::of(elements.as_slice())),
+            Content::Map(pairs) => Entries::Map(Items::of(pairs.as_slice())),
+            Content::SharedSet(elements) => Entries::Set(Items::of(elements.as_slice())),
+            Content::SharedMap(pairs) => Entries::Map(Items::of(pairs.as_slice())),
+            Content::ChunkedSet(elements) => Entries::Set(elements.items()),
+            Content::ChunkedMap(pairs) => Entries::Map(pairs.items()),
         }
     }
 
@@ -249,8 +313,8 @@ impl Value {
         ensures { result ≡ has self.now (atom_of atom.now) }
     {
         match self.entries() {
-            Entries::Set(elements) => entry::find(elements, atom).is_some(),
-            Entries::Map(pairs) => entry::find(pairs, atom).is_some(),
+            Entries::Set(elements) => entry::find(&elements, atom).is_some(),
+            Entries::Map(pairs) => entry::find(&pairs, atom).is_some(),
         }
     }
 
@@ -261,7 +325,7 @@ impl Value {
         match self.entries() {
             Entries::Set(_) => None,
             Entries::Map(pairs) => {
-                let pair = entry::find(pairs, key)?;
+                let pair = entry::find(&pairs, key)?;
                 Some(&pair.1)
             }
         }
@@ -274,8 +338,8 @@ impl Value {
         ensures { result ≡ model.includes_all self.now other.now }
     {
         match (self.entries(), other.entries()) {
-            (Entries::Set(all), Entries::Set(wanted)) => entry::includes(all, wanted),
-            (Entries::Map(all), Entries::Map(wanted)) => entry::includes(all, wanted),
+            (Entries::Set(all), Entries::Set(wanted)) => entry::includes(&all, &wanted),
+            (Entries::Map(all), Entries::Map(wanted)) => entry::includes(&all, &wanted),
             _ => false,
         }
     }
@@ -287,8 +351,19 @@ impl Value {
         ensures { result ≡ excludes_all self.now other.now }
     {
         match (self.entries(), other.entries()) {
-            (Entries::Set(all), Entries::Set(unwanted)) => entry::excludes(all, unwanted),
-            (Entries::Map(all), Entries::Map(unwanted)) => entry::excludes(all, unwanted),
+            (Entries::Set(all), Entries::Set(unwanted)) => entry::excludes(&all, &unwanted),
+            (Entries::Map(all), Entries::Map(unwanted)) => entry::excludes(&all, &unwanted),
+            _ => false,
+        }
+    }
+
+    fn has_same_entries(&self, other: &Value) -> bool
+        ensures value { result ≡ eq_by_cmp value_cmp self.now other.now }
+        ensures same { result ≡ model.same_value self.now other.now }
+    {
+        match (self.entries(), other.entries()) {
+            (Entries::Set(left), Entries::Set(right)) => left.is_same(&right),
+            (Entries::Map(left), Entries::Map(right)) => left.is_same(&right),
             _ => false,
         }
     }
@@ -299,13 +374,25 @@ impl Value {
     {
         match &self.content {
             Content::One(atom) => Ok(Value::one(atom.try_copy(alloc)?)),
-            Content::Set(elements) => Ok(Value::of_elements(entry::copies(alloc, elements)?)),
-            Content::Map(pairs) => Ok(Value::of_pairs(entry::copies(alloc, pairs)?)),
+            Content::Set(elements) => {
+                let elements = entry::copies(alloc, &Items::of(elements.as_slice()))?;
+                Ok(Value::of_elements(elements))
+            }
+            Content::Map(pairs) => {
+                let pairs = entry::copies(alloc, &Items::of(pairs.as_slice()))?;
+                Ok(Value::of_pairs(pairs))
+            }
             Content::SharedSet(elements) => Ok(Value {
                 content: Content::SharedSet(elements.clone()?),
             }),
             Content::SharedMap(pairs) => Ok(Value {
                 content: Content::SharedMap(pairs.clone()?),
+            }),
+            Content::ChunkedSet(elements) => Ok(Value {
+                content: Content::ChunkedSet(elements.clone()?),
+            }),
+            Content::ChunkedMap(pairs) => Ok(Value {
+                content: Content::ChunkedMap(pairs.clone()?),
             }),
         }
     }
@@ -324,10 +411,10 @@ impl Ord for Value {
 
     fn cmp(&self, other: &Value) -> Ordering {
         match (self.entries(), other.entries()) {
-            (Entries::Set(left), Entries::Set(right)) => left.cmp(&right),
+            (Entries::Set(left), Entries::Set(right)) => left.compare(&right),
             (Entries::Set(_), Entries::Map(_)) => Ordering::Less,
             (Entries::Map(_), Entries::Set(_)) => Ordering::Greater,
-            (Entries::Map(left), Entries::Map(right)) => left.cmp(&right),
+            (Entries::Map(left), Entries::Map(right)) => left.compare(&right),
         }
     }
 }
@@ -351,10 +438,9 @@ impl PartialEq for Value {
         ensures value { result ≡ eq_by_cmp value_cmp self.now other.now }
         ensures same { result ≡ model.same_value self.now other.now }
     {
-        match (self.entries(), other.entries()) {
-            (Entries::Set(left), Entries::Set(right)) => left == right,
-            (Entries::Map(left), Entries::Map(right)) => left == right,
-            _ => false,
+        match (&self.content, &other.content) {
+            (Content::One(left), Content::One(right)) => *left == *right,
+            _ => self.has_same_entries(other),
         }
     }
 }
@@ -399,7 +485,7 @@ fn are_of_one_kind(elements: &[Atom]) -> bool
 {
     match elements {
         [] => true,
-        [first, rest @ ..] => are_all_a(rest, first.kind()),
+        [first, rest @ ..] => are_all_a(&Items::of(rest), first.kind()),
     }
 }
 
@@ -409,19 +495,37 @@ fn have_one_kind_each(pairs: &[(Atom, Atom)]) -> bool
 {
     match pairs {
         [] => true,
-        [first, rest @ ..] => are_all_pairs_of(rest, first.0.kind(), first.1.kind()),
+        [first, rest @ ..] => are_all_pairs_of(&Items::of(rest), first.0.kind(), first.1.kind()),
     }
 }
 
 /// Returns whether each element is of the kind.
-pub(crate) fn are_all_a(elements: &[Atom], kind: Kind) -> bool
+pub(crate) fn are_all_a(elements: &Items<'_, Atom>, kind: Kind) -> bool
     ensures { result ≡ each_element (is_a (kind_in kind)) elements.now }
 {
     elements.iter().all(|atom| atom.is_a(kind))
 }
 
+/// Returns whether each of the ascending elements is of the kind, which those in between are where the first and the last
+/// are, as atoms are ordered by kind first. O(1).
+pub(crate) fn are_within(elements: &Items<'_, Atom>, kind: Kind) -> bool
+    requires { AreAscending elements.now }
+    ensures { result ≡ each_element (is_a (kind_in kind)) elements.now }
+{
+    let Some(first) = elements.first() else {
+        return true;
+    };
+    let Some(last) = elements.last() else {
+        return true;
+    };
+    if !first.is_a(kind) {
+        return false;
+    }
+    last.is_a(kind)
+}
+
 /// Returns whether each key and each value is of its kind.
-pub(crate) fn are_all_pairs_of(pairs: &[(Atom, Atom)], key: Kind, value: Kind) -> bool
+pub(crate) fn are_all_pairs_of(pairs: &Items<'_, (Atom, Atom)>, key: Kind, value: Kind) -> bool
     ensures { result ≡ each_pair (is_a (kind_in key)) (is_a (kind_in value)) pairs.now }
 {
     pairs
@@ -438,6 +542,8 @@ impl Drop for Content {
             Content::Map(_) => {}
             Content::SharedSet(_) => {}
             Content::SharedMap(_) => {}
+            Content::ChunkedSet(_) => {}
+            Content::ChunkedMap(_) => {}
         }
     }
 }

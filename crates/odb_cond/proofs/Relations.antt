@@ -1,6 +1,5 @@
 -- How two sets stand to each other, by their elements; and what stands to the empty set.
 use Rattle.std.specs.Prelude.{◌≡◌, Bool, true, false, not, ◌&&◌, ◌==◌, length, List, [], ◌∷◌, map, is_some}
-use Rattle.std.specs.Borrow.{Bor}
 use Rattle.std.specs.List.{list_all, list_any}
 use Rattle.std.specs.declared.cmp.Ordering.{Ordering}
 use Rattle.std.proofs.Common.{arith}
@@ -26,11 +25,11 @@ use Rattle.odb_cond.specs.Represented.Clause.{some_stands}
 stands_to : (Ordering → Bool) → List model.Atom → model.Atom → Bool
 stands_to test others a = list_any (λ b. test (atom_cmp a b)) others
 
-pub compares-listed : (test : Ordering → Bool) (s t : Bor (List Atom)) (v w : Value) → Lists (entries.Set s) v → Lists (entries.Set t) w → list_any (λ a. some_stands test (atom_of a) t.now) s.now ≡ compares test v w
+pub compares-listed : (test : Ordering → Bool) (s t : List Atom) (v w : Value) → Lists (entries.Set s) v → Lists (entries.Set t) w → list_any (λ a. some_stands test (atom_of a) t) s ≡ compares test v w
 unfolding stands_to
 compares-listed test s t (set_of c) (set_of d) in_s in_t =
-    (λ i. list_any (λ (a : Atom). sym (any-map (λ b. test (atom_cmp (atom_of a) b)) atom_of t.now) i) s.now)
-    ∙ sym (any-map (stands_to test (map atom_of t.now)) atom_of s.now)
+    (λ i. list_any (λ (a : Atom). sym (any-map (λ b. test (atom_cmp (atom_of a) b)) atom_of t) i) s)
+    ∙ sym (any-map (stands_to test (map atom_of t)) atom_of s)
     ∙ (λ i. list_any (stands_to test (in_t i)) (in_s i))
 compares-listed test s t (set_of c) (map_of n) in_s in_t = absurd in_t
 compares-listed test s t (map_of m) (set_of d) in_s in_t = absurd in_s

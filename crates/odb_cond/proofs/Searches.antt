@@ -1,5 +1,5 @@
 -- A search among atoms tells whether a condition that asks for one of them holds.
-use Rattle.std.specs.Prelude.{◌≡◌, ℕ, suc, ◌<◌, Bool, true, false, not, ◌&&◌, ◌||◌, ◌==◌, List, [], ◌∷◌, ◌++◌, length, get_or}
+use Rattle.std.specs.Prelude.{◌≡◌, ℕ, suc, ◌<◌, Bool, true, false, not, ◌&&◌, ◌||◌, ◌==◌, List, [], ◌∷◌, ◌++◌, length, get_or, Option, Some, None, option_map, IfSome}
 use Rattle.std.specs.Borrow.{Bor}
 use Rattle.std.specs.List.{list_all, list_any}
 use Rattle.std.specs.declared.cmp.Ordering.{Ordering}
@@ -13,20 +13,23 @@ use Rattle.std.proofs.lemmas.Cmp.{eq_by_cmp_equiv}
 use Rattle.std.proofs.lemmas.List.{length-map}
 use Rattle.std.proofs.lemmas.List.Folds.{list_any-append, list_any_at}
 use Rattle.std.proofs.lemmas.List.Sorted.{searchable_from_sorted}
+use Rattle.std.proofs.lemmas.Option.{none-some, same_Some}
 use mathlib.Core.Path.{refl, sym, ap, ◌∙◌}
 use Rattle.odb_atoms.specs.Atom.{Atom, atom_cmp, same_atom}
 use Rattle.odb_atoms.specs.FinMap as finite
 use Rattle.odb_atoms.specs.FinSet as set
 use Rattle.odb_atoms.specs.Represented.Atom.{atom_of}
 use Rattle.odb_atoms.specs.Represented.AtomOrder.{atom_cmp_total}
-use Rattle.odb_atoms.specs.Represented.Value.{Lists}
+use Rattle.odb_atoms.specs.Represented.Value.{Lists, set_in}
 use Rattle.odb_atoms.specs.Value.{Atoms, Value, atoms, includes_all, map_of, same_value, set_of}
 use Rattle.odb_atoms.specs.declared.atom.Atom as code
 use Rattle.odb_atoms.specs.declared.value.Entries.TheVariants as entries
 use Rattle.odb_atoms.proofs.FinMaps.{contains_key-keys}
 use Rattle.odb_atoms.proofs.FinSets.{contains-from_list}
 use Rattle.odb_atoms.proofs.Lists.{any-map}
+use Rattle.odb_atoms.proofs.Represented.Entries.{set_in-only}
 use Rattle.odb_atoms.proofs.Values.{same_value-equal}
+use Rattle.odb_chunks.specs.Represented.Chunks.{lone_of}
 use Rattle.odb_cond.specs.Represented.Keyed.{asks, asks_some, found_in, is_among, one}
 
 -- ---- tests of lists
@@ -76,6 +79,13 @@ abbrev elements : Value → List Atom
 elements (set_of s) = set.items s
 elements (map_of m) = []
 
+-- what lies alone in a list is the one element of its set
+pub lone_listed : (o : Option (Bor (code.Atom))) (xs : List (code.Atom)) (v : Value) → option_map (λ a. a.now) o ≡ lone_of xs → set_in xs ≡ v → IfSome o (λ a. v ≡ one (atom_of a.now))
+lone_listed None xs v is in_set = tt
+lone_listed (Some a) [] v is in_set = absurd (none-some a.now (sym is))
+lone_listed (Some a) (x ∷ []) v is in_set = sym in_set ∙ set_in-only (x ∷ []) a.now (ap (λ y. y ∷ []) (sym (same_Some a.now x is)))
+lone_listed (Some a) (x ∷ y ∷ ys) v is in_set = absurd (none-some a.now (sym is))
+
 includes_one : (s : Atoms) (a : Atom) → includes_all (set_of s) (one a) ≡ list_any (same_atom a) (set.items s)
 includes_one s a = ap (list_all (set.contains s)) (one_listed a) ∙ and_true (set.contains s a) ∙ contains_key-keys s a
 
@@ -107,17 +117,17 @@ asks_set false s a = includes_one s a
 
 -- ---- the search
 
-pub found : (is_equality : Bool) (ks : List (code.Atom)) (es : Bor (List (code.Atom))) (v : Value) → Lists (entries.Set es) v → found_in is_equality ks es.now ≡ asks_some is_equality ks v
+pub found : (is_equality : Bool) (ks : List (code.Atom)) (es : List (code.Atom)) (v : Value) → Lists (entries.Set es) v → found_in is_equality ks es ≡ asks_some is_equality ks v
 found is_equality ks es (set_of s) listed =
     let alone : List Atom → Bool = λ xs. not is_equality || (length xs == 1) in
-    let each : (k : code.Atom) → list_any (same_atom (atom_of k)) (set.items s) ≡ list_any (λ e. same_atom (atom_of e) (atom_of k)) es.now = λ k.
+    let each : (k : code.Atom) → list_any (same_atom (atom_of k)) (set.items s) ≡ list_any (λ e. same_atom (atom_of e) (atom_of k)) es = λ k.
     ap (list_any (same_atom (atom_of k))) (sym listed)
-    ∙ any-map (same_atom (atom_of k)) atom_of es.now
-    ∙ (λ i. list_any (λ e. turned (atom_of k) (atom_of e) i) es.now) in
+    ∙ any-map (same_atom (atom_of k)) atom_of es
+    ∙ (λ i. list_any (λ e. turned (atom_of k) (atom_of e) i) es) in
     sym ((λ i. list_any (λ k. asks_set is_equality s (atom_of k) i) ks)
     ∙ any_and (alone (set.items s)) (λ k. list_any (same_atom (atom_of k)) (set.items s)) ks
     ∙ (λ i. alone (sym listed i) && list_any (λ k. each k i) ks)
-    ∙ (λ i. (not is_equality || (length-map es.now atom_of i == 1)) && any_swap (λ k e. same_atom (atom_of e) (atom_of k)) ks es.now i))
+    ∙ (λ i. (not is_equality || (length-map es atom_of i == 1)) && any_swap (λ k e. same_atom (atom_of e) (atom_of k)) ks es i))
 found is_equality ks es (map_of m) listed = absurd listed
 
 asks_map : (is_equality : Bool) (m : _) (a : Atom) → asks is_equality (map_of m) a ≡ false
@@ -125,7 +135,7 @@ asks_map true m a = refl
 asks_map false m a = refl
 
 -- no condition that asks for one atom holds of a map
-pub none_in_map : (is_equality : Bool) (ks : List (code.Atom)) (es : Bor (List (code.Atom × code.Atom))) (v : Value) → Lists (entries.Map es) v → false ≡ asks_some is_equality ks v
+pub none_in_map : (is_equality : Bool) (ks : List (code.Atom)) (es : List (code.Atom × code.Atom)) (v : Value) → Lists (entries.Map es) v → false ≡ asks_some is_equality ks v
 none_in_map is_equality ks es (set_of s) listed = absurd listed
 none_in_map is_equality ks es (map_of m) listed = sym (any_none (λ k. asks is_equality (map_of m) (atom_of k)) (λ k. asks_map is_equality m (atom_of k)) ks)
 

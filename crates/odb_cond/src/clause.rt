@@ -15,6 +15,7 @@ ghost use Rattle.odb_cond.specs.Represented.Clause.{function_of, selector_of, so
 ghost use Rattle.odb_cond.specs.Represented.Keyed.{one};
 
 use odb_atoms::{Atom, Entries, Row, Value};
+use odb_chunks::Items;
 use std::alloc::{AllocError, Global};
 use std::cmp::Ordering;
 use std::marker::Model;
@@ -230,18 +231,18 @@ impl Function {
         ensures { result ≡ model.compares (test_of self) column.now value.now }
     {
         match (column.entries(), value.entries()) {
-            (Entries::Set(atoms), Entries::Set(others)) => self.holds_of_some(atoms, others),
+            (Entries::Set(atoms), Entries::Set(others)) => self.holds_of_some(&atoms, &others),
             _ => false,
         }
     }
 
-    fn holds_of_some(self, atoms: &[Atom], others: &[Atom]) -> bool
+    fn holds_of_some(self, atoms: &Items<'_, Atom>, others: &Items<'_, Atom>) -> bool
         ensures { result ≡ list_any (λ a. some_stands (test_of self) (atom_of a) others.now) atoms.now }
     {
         atoms.iter().any(|atom| self.holds_of_atom(atom, others))
     }
 
-    fn holds_of_atom(self, atom: &Atom, others: &[Atom]) -> bool
+    fn holds_of_atom(self, atom: &Atom, others: &Items<'_, Atom>) -> bool
         ensures { result ≡ some_stands (test_of self) (atom_of atom.now) others.now }
     {
         others.iter().any(|other| self.allows(atom.cmp(other)))
@@ -267,8 +268,11 @@ fn lone_uuid(value: &Value) -> Option<Uuid>
     ensures { option_map uuid_of result ≡ uuid_in value.now }
 {
     match value.entries() {
-        Entries::Set([Atom::Uuid(uuid)]) => Some(*uuid),
-        _ => None,
+        Entries::Set(elements) => match elements.lone() {
+            Some(Atom::Uuid(uuid)) => Some(*uuid),
+            _ => None,
+        },
+        Entries::Map(_) => None,
     }
 }
 
@@ -277,7 +281,7 @@ pub(crate) fn lone_atom(value: &Value) -> Option<&Atom>
     ensures { IfSome result (λ atom. value.now ≡ one (atom_of atom.now)) }
 {
     match value.entries() {
-        Entries::Set([atom]) => Some(atom),
-        _ => None,
+        Entries::Set(elements) => elements.lone(),
+        Entries::Map(_) => None,
     }
 }

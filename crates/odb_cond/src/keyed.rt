@@ -13,6 +13,7 @@ use crate::ascending::Ascending;
 use crate::clause::Selector;
 use crate::gathered::Listed;
 use odb_atoms::{Atom, Entries, Row, Value};
+use odb_chunks::Items;
 use uuid::Uuid;
 
 /// Conditions on one column by one function, `==` or `includes`, each of them with the set of one atom
@@ -78,13 +79,13 @@ impl Keyed {
         ensures { result ≡ asks_some self.now.is_equality self.now.atoms value.now }
     {
         match value.entries() {
-            Entries::Set(elements) => self.is_found_in(elements),
+            Entries::Set(elements) => self.is_found_in(&elements),
             Entries::Map(_) => false,
         }
     }
 
     /// Returns whether one of the conditions holds where the column is the set of these elements.
-    fn is_found_in(&self, elements: &[Atom]) -> bool
+    fn is_found_in(&self, elements: &Items<'_, Atom>) -> bool
         ensures { result ≡ found_in self.now.is_equality self.now.atoms elements.now }
     {
         if self.is_equality && elements.len() != 1 {
@@ -94,7 +95,7 @@ impl Keyed {
     }
 
     /// Returns whether one of the elements is the atom of a condition.
-    fn has_some(&self, elements: &[Atom]) -> bool
+    fn has_some(&self, elements: &Items<'_, Atom>) -> bool
         ensures { result ≡ list_any (λ e. is_among self.now.atoms (atom_of e)) elements.now }
     {
         elements.iter().any(|element| self.atoms.has(element))

@@ -99,16 +99,16 @@ only_second false false e f = f
 
 module _ (s : Schema) (db : Db) (t : ColType) where
   -- the tests of the code
-  pub set_change : (e : Bor (List declared.Atom)) (d now : Value) → Lists (entries.Set e) d → (k : Option ℕ) → k ≡ weak_target s t.key → list_any (λ a. is_stale db k (atom_of a) && has now (atom_of a)) e.now ≡ has_stale_change s db t d now
+  pub set_change : (e : List declared.Atom) (d now : Value) → Lists (entries.Set e) d → (k : Option ℕ) → k ≡ weak_target s t.key → list_any (λ a. is_stale db k (atom_of a) && has now (atom_of a)) e ≡ has_stale_change s db t d now
   set_change e (map_of m) now at k key = absurd at
   set_change e (set_of elements) now at k key =
-      sym (any-map (λ a. is_stale db k a && has now a) atom_of e.now) ∙ ap (list_any (λ a. is_stale db k a && has now a)) at
+      sym (any-map (λ a. is_stale db k a && has now a) atom_of e) ∙ ap (list_any (λ a. is_stale db k a && has now a)) at
       ∙ ap (λ k. list_any (λ a. is_stale db k a && has now a) (set.items elements)) key
 
-  pub map_change : (e : Bor (List (declared.Atom × declared.Atom))) (d now : Value) → Lists (entries.Map e) d → (k w : Option ℕ) → k ≡ weak_target s t.key → w ≡ weak_target s (value_base t) → list_any (λ p. (is_stale db k (atom_of p.0) || is_stale db w (atom_of p.1)) && has_pair_of now (pair_of p)) e.now ≡ has_stale_change s db t d now
+  pub map_change : (e : List (declared.Atom × declared.Atom)) (d now : Value) → Lists (entries.Map e) d → (k w : Option ℕ) → k ≡ weak_target s t.key → w ≡ weak_target s (value_base t) → list_any (λ p. (is_stale db k (atom_of p.0) || is_stale db w (atom_of p.1)) && has_pair_of now (pair_of p)) e ≡ has_stale_change s db t d now
   map_change e (set_of elements) now at k w key value = absurd at
   map_change e (map_of m) now at k w key value =
-      sym (any-map (λ (p : Atom × Atom). (is_stale db k p.0 || is_stale db w p.1) && has_pair_of now p) pair_of e.now)
+      sym (any-map (λ (p : Atom × Atom). (is_stale db k p.0 || is_stale db w p.1) && has_pair_of now p) pair_of e)
       ∙ ap (list_any (λ p. (is_stale db k p.0 || is_stale db w p.1) && has_pair_of now p)) at
       ∙ (λ i. list_any (λ p. (is_stale db (key i) p.0 || is_stale db (value i) p.1) && has_pair_of now p) (map.entries_of m))
 

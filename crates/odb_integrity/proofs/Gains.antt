@@ -108,10 +108,10 @@ pair_named k w y e =
     tidy false false = refl
 
 -- the test of the code
-pub map_strong : (s : Schema) (t : ColType) (e : Bor (List (declared.Atom × declared.Atom))) (d now : Value) → Lists (entries.Map e) d → (k w : Option ℕ) → k ≡ strong_target s t.key → w ≡ strong_target s (value_base t) → flat_map (λ p. gained_of_pair k w now (pair_of p)) e.now ≡ strong_of_change s t d now
+pub map_strong : (s : Schema) (t : ColType) (e : List (declared.Atom × declared.Atom)) (d now : Value) → Lists (entries.Map e) d → (k w : Option ℕ) → k ≡ strong_target s t.key → w ≡ strong_target s (value_base t) → flat_map (λ p. gained_of_pair k w now (pair_of p)) e ≡ strong_of_change s t d now
 map_strong s t e (set_of d) now at k w key value = absurd at
 map_strong s t e (map_of d) now at k w key value =
-    sym (flat_map-map (gained_of_pair k w now) pair_of e.now) ∙ ap (flat_map (gained_of_pair k w now)) at
+    sym (flat_map-map (gained_of_pair k w now) pair_of e) ∙ ap (flat_map (gained_of_pair k w now)) at
     ∙ (λ i. flat_map (gained_of_pair (key i) (value i) now) (map.entries_of d))
   where
     flat_map-map : {X Y Z : Type 0} (h : Y → List Z) (f : X → Y) (xs : List X) → flat_map h (map_list f xs) ≡ flat_map (λ x. h (f x)) xs

@@ -8,7 +8,6 @@ use Rattle.std.proofs.lemmas.List.Concat.{flat_map-append}
 use Rattle.std.proofs.lemmas.List.Elements.{filter_map-append}
 use Rattle.odb_atoms.specs.Atom.{Atom, boolean, integer, text, uuid}
 use mathlib.Core.Logic.{◌⊎◌, inl, inr}
-use denote.Ref.{Bor}
 use Rattle.std.specs.Prelude.{zip}
 use Rattle.odb_atoms.proofs.Represented.Values.{map-map}
 use Rattle.odb_atoms.specs.FinMap as finite
@@ -37,22 +36,23 @@ module _ {X : Type 0} (f : X → Atom) (t : Option ℕ) where
   one_named None rest = refl
   one_named (Some x) rest = refl
 
-  -- one atom more
-  pub named_more : (rows now all : List RowId) (xs : List X) (i : ℕ) (x : X) → i < length xs → x ≡ get_or xs i x → rows ≡ all ++ filter_map (referent t) (map f (take i xs)) → now ≡ rows ++ option_to_list (referent t (f x)) → now ≡ all ++ filter_map (referent t) (map f (take (i + 1) xs))
-  named_more rows now all xs i x inside is before more =
-      more ∙ ap (λ ys. ys ++ option_to_list (referent t (f x))) before ∙ append_assoc all _ _
-      ∙ ap (λ ys. all ++ ys) (sym (filter_map-append (referent t) (map f (take i xs)) (f x ∷ []) ∙ ap (λ ys. filter_map (referent t) (map f (take i xs)) ++ ys) (one_named (referent t (f x)) [] ∙ append-nil _))
-      ∙ ap (filter_map (referent t)) (sym (map-append f (take i xs) (x ∷ [])) ∙ ap (map f) (ap (λ y. take i xs ++ y ∷ []) is ∙ sym (take_more xs i x inside))))
+  -- one atom more, of those that are left
+  pub named_more : (rows now whole : List RowId) (xs rest : List X) (x : X) → xs ≡ x ∷ rest → rows ++ filter_map (referent t) (map f xs) ≡ whole → now ≡ rows ++ option_to_list (referent t (f x)) → now ++ filter_map (referent t) (map f rest) ≡ whole
+  named_more rows now whole xs rest x is before more =
+      ap (λ ys. ys ++ filter_map (referent t) (map f rest)) more
+      ∙ append_assoc rows (option_to_list (referent t (f x))) (filter_map (referent t) (map f rest))
+      ∙ ap (λ ys. rows ++ ys) (sym (one_named (referent t (f x)) (filter_map (referent t) (map f rest))) ∙ ap (λ ys. filter_map (referent t) (map f ys)) (sym is))
+      ∙ before
 
 -- the rows that the keys of a map name, and then those that its values name
-pub map_named : (s : Schema) (t : ColType) (p : Bor (List (declared.Atom × declared.Atom))) (v : Value) → Lists (entries.Map p) v → (k w : Option ℕ) → k ≡ strong_target s t.key → w ≡ strong_target s (value_base t) → (old one two : List RowId)
-    → one ≡ old ++ filter_map (referent k) (map (λ q. atom_of q.0) p.now) → two ≡ one ++ filter_map (referent w) (map (λ q. atom_of q.1) p.now) → two ≡ old ++ strong_of_value s t v
+pub map_named : (s : Schema) (t : ColType) (p : List (declared.Atom × declared.Atom)) (v : Value) → Lists (entries.Map p) v → (k w : Option ℕ) → k ≡ strong_target s t.key → w ≡ strong_target s (value_base t) → (old one two : List RowId)
+    → one ≡ old ++ filter_map (referent k) (map (λ q. atom_of q.0) p) → two ≡ one ++ filter_map (referent w) (map (λ q. atom_of q.1) p) → two ≡ old ++ strong_of_value s t v
 unfolding finite.keys
 map_named s t p (set_of v) listed k w key value old one two first second = absurd listed
 map_named s t p (map_of m) listed k w key value old one two first second =
-    let keys : map (λ q. atom_of q.0) p.now ≡ finite.keys m = sym (map-map (λ (e : Atom × Atom). e.0) pair_of p.now) ∙ ap (map (λ e. e.0)) listed in
-    let values : map (λ q. atom_of q.1) p.now ≡ finite.values m = sym (map-map (λ (e : Atom × Atom). e.1) pair_of p.now) ∙ ap (map (λ e. e.1)) listed in
-    second ∙ ap (λ ys. ys ++ filter_map (referent w) (map (λ q. atom_of q.1) p.now)) first ∙ append_assoc old _ _
+    let keys : map (λ q. atom_of q.0) p ≡ finite.keys m = sym (map-map (λ (e : Atom × Atom). e.0) pair_of p) ∙ ap (map (λ e. e.0)) listed in
+    let values : map (λ q. atom_of q.1) p ≡ finite.values m = sym (map-map (λ (e : Atom × Atom). e.1) pair_of p) ∙ ap (map (λ e. e.1)) listed in
+    second ∙ ap (λ ys. ys ++ filter_map (referent w) (map (λ q. atom_of q.1) p)) first ∙ append_assoc old _ _
     ∙ (λ i. old ++ (filter_map (referent (key i)) (keys i) ++ filter_map (referent (value i)) (values i)))
 
 pub zip_done : {A B : Type 0} (xs : List A) (ys : List B) → (xs ≡ []) ⊎ (ys ≡ []) → zip xs ys ≡ []
@@ -87,6 +87,11 @@ flat_more f before now xs i x inside is done more =
     ∙ ap (λ ys. flat_map f (take i xs) ++ ys) (sym (append-nil (f x)))
     ∙ sym (flat_map-append f (take i xs) (x ∷ []))
     ∙ ap (flat_map f) (ap (λ y. take i xs ++ y ∷ []) is ∙ sym (take_more xs i x inside))
+
+-- one more, of those that are left
+pub flat_next : {X Y : Type 0} (f : X → List Y) (before now whole : List Y) (xs rest : List X) (x : X) → xs ≡ x ∷ rest → before ++ flat_map f xs ≡ whole → now ≡ before ++ f x → now ++ flat_map f rest ≡ whole
+flat_next f before now whole xs rest x is done more =
+    ap (λ ys. ys ++ flat_map f rest) more ∙ append_assoc before (f x) (flat_map f rest) ∙ ap (λ ys. before ++ flat_map f ys) (sym is) ∙ done
 
 -- the same behind others
 pub flat_more_after : {X Y : Type 0} (f : X → List Y) (all before now : List Y) (xs : List X) (i : ℕ) (x : X) → i < length xs → x ≡ get_or xs i x → before ≡ all ++ flat_map f (take i xs) → now ≡ before ++ f x → now ≡ all ++ flat_map f (take (i + 1) xs)

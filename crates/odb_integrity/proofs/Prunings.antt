@@ -41,14 +41,14 @@ use Rattle.odb_integrity.proofs.Ids.{same_row_equal}
 -- ---- what is stale
 
 module _ (s : Schema) (db : Db) (t : ColType) where
-  pub set_stale : (e : Bor (List declared.Atom)) (v : Value) → Lists (entries.Set e) v → (k : Option ℕ) → k ≡ weak_target s t.key → list_any (λ a. is_stale db k (atom_of a)) e.now ≡ has_stale s db t v
-  set_stale e (set_of elements) listed k key = sym (any-map (is_stale db k) atom_of e.now) ∙ ap (list_any (is_stale db k)) listed ∙ ap (λ k. list_any (is_stale db k) (set.items elements)) key
+  pub set_stale : (e : List declared.Atom) (v : Value) → Lists (entries.Set e) v → (k : Option ℕ) → k ≡ weak_target s t.key → list_any (λ a. is_stale db k (atom_of a)) e ≡ has_stale s db t v
+  set_stale e (set_of elements) listed k key = sym (any-map (is_stale db k) atom_of e) ∙ ap (list_any (is_stale db k)) listed ∙ ap (λ k. list_any (is_stale db k) (set.items elements)) key
   set_stale e (map_of m) listed k key = absurd listed
 
-  pub map_stale : (e : Bor (List (declared.Atom × declared.Atom))) (v : Value) → Lists (entries.Map e) v → (k w : Option ℕ) → k ≡ weak_target s t.key → w ≡ weak_target s (value_base t) → list_any (λ p. is_stale db k (atom_of p.0) || is_stale db w (atom_of p.1)) e.now ≡ has_stale s db t v
+  pub map_stale : (e : List (declared.Atom × declared.Atom)) (v : Value) → Lists (entries.Map e) v → (k w : Option ℕ) → k ≡ weak_target s t.key → w ≡ weak_target s (value_base t) → list_any (λ p. is_stale db k (atom_of p.0) || is_stale db w (atom_of p.1)) e ≡ has_stale s db t v
   map_stale e (set_of elements) listed k w key value = absurd listed
   map_stale e (map_of m) listed k w key value =
-      sym (any-map (λ (p : Atom × Atom). is_stale db k p.0 || is_stale db w p.1) pair_of e.now)
+      sym (any-map (λ (p : Atom × Atom). is_stale db k p.0 || is_stale db w p.1) pair_of e)
       ∙ ap (list_any (λ p. is_stale db k p.0 || is_stale db w p.1)) listed
       ∙ (λ i. list_any (λ p. is_stale db (key i) p.0 || is_stale db (value i) p.1) (finite.entries_of m))
 
@@ -94,10 +94,10 @@ same_list [] = refl
 same_list (x ∷ xs) = ap (λ ys. x ∷ ys) (same_list xs)
 
 module _ (s : Schema) (db : Db) (t : ColType) where
-  kept_elements : (e : Bor (List declared.Atom)) (elements : Atoms) (p : Atom → Bool) (left : List declared.Atom) → map atom_of e.now ≡ set.items elements → map atom_of left ≡ map atom_of (filter (λ a. p (atom_of a)) e.now) → map atom_of left ≡ filter p (set.items elements)
-  kept_elements e elements p left listed is = is ∙ filter-map atom_of p e.now ∙ ap (filter p) listed
+  kept_elements : (e : List declared.Atom) (elements : Atoms) (p : Atom → Bool) (left : List declared.Atom) → map atom_of e ≡ set.items elements → map atom_of left ≡ map atom_of (filter (λ a. p (atom_of a)) e) → map atom_of left ≡ filter p (set.items elements)
+  kept_elements e elements p left listed is = is ∙ filter-map atom_of p e ∙ ap (filter p) listed
 
-  pub set_left_fault : (e : Bor (List declared.Atom)) (v : Value) → Lists (entries.Set e) v → has_kind t v ≡ true → (k : Option ℕ) (left : List declared.Atom) → map atom_of left ≡ map atom_of (filter (λ a. not (is_stale db k (atom_of a))) e.now) → set_fault (map atom_of left) ≡ None
+  pub set_left_fault : (e : List declared.Atom) (v : Value) → Lists (entries.Set e) v → has_kind t v ≡ true → (k : Option ℕ) (left : List declared.Atom) → map atom_of left ≡ map atom_of (filter (λ a. not (is_stale db k (atom_of a))) e) → set_fault (map atom_of left) ≡ None
   unfolding finite.keys
   set_left_fault e (set_of elements) listed kind k left is =
       let p : Atom → Bool = λ a. not (is_stale db k a) in
@@ -105,17 +105,17 @@ module _ (s : Schema) (db : Db) (t : ColType) where
       ap set_fault (kept_elements e elements p left listed is ∙ sym (same_list (filter p (set.items elements)))) ∙ set_fault-none t.key.kind _ (subst (λ xs. list_all (is_a t.key.kind) xs ≡ true) (sym (same_list (filter p (set.items elements)))) (all-filter (is_a t.key.kind) p (set.items elements) kinds)) (distinct-filter (λ (a : Atom). a) p (set.items elements) (subst IsDistinct (sym (same_list (set.items elements))) (distinct-rising elements.entries elements.sorted)))
   set_left_fault e (map_of m) listed kind k left is = absurd listed
 
-  pub set_left : (e : Bor (List declared.Atom)) (v : Value) → Lists (entries.Set e) v → (k : Option ℕ) → k ≡ weak_target s t.key → (left : List declared.Atom) → map atom_of left ≡ map atom_of (filter (λ a. not (is_stale db k (atom_of a))) e.now) → set_of (atoms (map atom_of left)) ≡ pruned_value s db t v
+  pub set_left : (e : List declared.Atom) (v : Value) → Lists (entries.Set e) v → (k : Option ℕ) → k ≡ weak_target s t.key → (left : List declared.Atom) → map atom_of left ≡ map atom_of (filter (λ a. not (is_stale db k (atom_of a))) e) → set_of (atoms (map atom_of left)) ≡ pruned_value s db t v
   set_left e (set_of elements) listed k key left is =
       ap (λ xs. set_of (atoms xs)) (kept_elements e elements (λ a. not (is_stale db k a)) left listed is)
       ∙ ap set_of (retained elements (λ a. not (is_stale db k a)))
       ∙ ap (λ k. set_of (set.retain elements (λ a. not (is_stale db k a)))) key
   set_left e (map_of m) listed k key left is = absurd listed
 
-  kept_pairs : (e : Bor (List (declared.Atom × declared.Atom))) (m : Pairs) (p : Atom × Atom → Bool) (left : List (declared.Atom × declared.Atom)) → map pair_of e.now ≡ m.entries → map pair_of left ≡ map pair_of (filter (λ a. p (pair_of a)) e.now) → map pair_of left ≡ filter p m.entries
-  kept_pairs e m p left listed is = is ∙ filter-map pair_of p e.now ∙ ap (filter p) listed
+  kept_pairs : (e : List (declared.Atom × declared.Atom)) (m : Pairs) (p : Atom × Atom → Bool) (left : List (declared.Atom × declared.Atom)) → map pair_of e ≡ m.entries → map pair_of left ≡ map pair_of (filter (λ a. p (pair_of a)) e) → map pair_of left ≡ filter p m.entries
+  kept_pairs e m p left listed is = is ∙ filter-map pair_of p e ∙ ap (filter p) listed
 
-  pub map_left_fault : (e : Bor (List (declared.Atom × declared.Atom))) (v : Value) → Lists (entries.Map e) v → has_kind t v ≡ true → (k w : Option ℕ) (left : List (declared.Atom × declared.Atom)) → map pair_of left ≡ map pair_of (filter (λ p. not (is_stale db k (atom_of p.0) || is_stale db w (atom_of p.1))) e.now) → map_fault (map pair_of left) ≡ None
+  pub map_left_fault : (e : List (declared.Atom × declared.Atom)) (v : Value) → Lists (entries.Map e) v → has_kind t v ≡ true → (k w : Option ℕ) (left : List (declared.Atom × declared.Atom)) → map pair_of left ≡ map pair_of (filter (λ p. not (is_stale db k (atom_of p.0) || is_stale db w (atom_of p.1))) e) → map_fault (map pair_of left) ≡ None
   map_left_fault e (set_of elements) listed kind k w left is = absurd listed
   map_left_fault e (map_of m) listed kind k w left is =
       let p : Atom × Atom → Bool = λ a. not (is_stale db k a.0 || is_stale db w a.1) in
@@ -123,7 +123,7 @@ module _ (s : Schema) (db : Db) (t : ColType) where
       let kinds = (both (cond (is_some t.value) true false) (list_all q m.entries) kind).1 in
       ap map_fault (kept_pairs e m p left listed is) ∙ map_fault-none t.key.kind (value_base t).kind _ (all-filter q p m.entries kinds) (distinct-filter (λ (a : Atom × Atom). a.0) p m.entries (distinct-rising m.entries m.sorted))
 
-  pub map_left : (e : Bor (List (declared.Atom × declared.Atom))) (v : Value) → Lists (entries.Map e) v → (k w : Option ℕ) → k ≡ weak_target s t.key → w ≡ weak_target s (value_base t) → (left : List (declared.Atom × declared.Atom)) → map pair_of left ≡ map pair_of (filter (λ p. not (is_stale db k (atom_of p.0) || is_stale db w (atom_of p.1))) e.now) → map_of (finite.from_entries (map pair_of left)) ≡ pruned_value s db t v
+  pub map_left : (e : List (declared.Atom × declared.Atom)) (v : Value) → Lists (entries.Map e) v → (k w : Option ℕ) → k ≡ weak_target s t.key → w ≡ weak_target s (value_base t) → (left : List (declared.Atom × declared.Atom)) → map pair_of left ≡ map pair_of (filter (λ p. not (is_stale db k (atom_of p.0) || is_stale db w (atom_of p.1))) e) → map_of (finite.from_entries (map pair_of left)) ≡ pruned_value s db t v
   map_left e (set_of elements) listed k w key value left is = absurd listed
   map_left e (map_of m) listed k w key value left is =
       ap (λ es. map_of (finite.from_entries es)) (kept_pairs e m (λ a. not (is_stale db k a.0 || is_stale db w a.1)) left listed is)

@@ -331,7 +331,7 @@ set_has s t v k key y = by k ∙ (λ i. list_any (passes (same_row y) (key i)) (
     by None = nothing (set.items v)
     by (Some j) = ap (λ b. (y.0 == j) && b) (contains_key-keys v (uuid y.1)) ∙ sym (any_both (y.0 == j) (same_atom (uuid y.1)) (set.items v)) ∙ (λ i. list_any (λ a. one j a i) (set.items v))
 
-pub set_refers : (s : Schema) (t : ColType) (e : Bor (List declared_atom.Atom)) (v : Value) → Lists (entries.Set e) v → (k : Option ℕ) → k ≡ strong_target s t.key → (y : RowId) → (unwrap_or (option_map (λ j. y.0 == j) k) false && has v (uuid y.1)) ≡ list_any (same_row y) (strong_of_value s t v)
+pub set_refers : (s : Schema) (t : ColType) (e : List declared_atom.Atom) (v : Value) → Lists (entries.Set e) v → (k : Option ℕ) → k ≡ strong_target s t.key → (y : RowId) → (unwrap_or (option_map (λ j. y.0 == j) k) false && has v (uuid y.1)) ≡ list_any (same_row y) (strong_of_value s t v)
 set_refers s t e (map_of m) is k key y = absurd is
 set_refers s t e (set_of v) is k key y = set_has s t v k key y
 
@@ -354,8 +354,8 @@ map_has s t m k w key value y =
     ∙ (λ i. sym (any-filter_map (same_row y) (referent (strong_target s t.key)) (map.keys m) ∙ any-map (passes (same_row y) (strong_target s t.key)) (λ (e : Atom × Atom). e.0) m.entries) i || sym (any-filter_map (same_row y) (referent (strong_target s (value_base t))) (map.values m) ∙ any-map (passes (same_row y) (strong_target s (value_base t))) (λ (e : Atom × Atom). e.1) m.entries) i)
     ∙ sym (list_any-append (same_row y) (filter_map (referent (strong_target s t.key)) (map.keys m)) (filter_map (referent (strong_target s (value_base t))) (map.values m)))
 
-pub map_refers : (s : Schema) (t : ColType) (p : Bor (List (declared_atom.Atom × declared_atom.Atom))) (v : Value) → Lists (entries.Map p) v → (k w : Option ℕ) → k ≡ strong_target s t.key → w ≡ strong_target s (value_base t) → (y : RowId) → list_any (λ q. names k y (atom_of q.0) || names w y (atom_of q.1)) p.now ≡ list_any (same_row y) (strong_of_value s t v)
+pub map_refers : (s : Schema) (t : ColType) (p : List (declared_atom.Atom × declared_atom.Atom)) (v : Value) → Lists (entries.Map p) v → (k w : Option ℕ) → k ≡ strong_target s t.key → w ≡ strong_target s (value_base t) → (y : RowId) → list_any (λ q. names k y (atom_of q.0) || names w y (atom_of q.1)) p ≡ list_any (same_row y) (strong_of_value s t v)
 map_refers s t p (set_of v) is k w key value y = absurd is
 map_refers s t p (map_of m) is k w key value y =
     let both_named : Atom × Atom → Bool = λ e. names k y e.0 || names w y e.1 in
-    sym (any-map both_named pair_of p.now) ∙ ap (list_any both_named) is ∙ map_has s t m k w key value y
+    sym (any-map both_named pair_of p) ∙ ap (list_any both_named) is ∙ map_has s t m k w key value y

@@ -14,6 +14,7 @@ use crate::references::{
 };
 use crate::row_id::RowId;
 use odb_atoms::{Atom, ColType, Entries, Row, Value, difference};
+use odb_chunks::Items;
 use odb_schema::{Schema, TableId};
 use odb_tables::Draft;
 use std::alloc::{AllocError, Global};
@@ -195,7 +196,7 @@ fn strong_of_change(
                 keys: strong_target(schema, &column.key),
                 values: strong_target(schema, value_base(column)),
             };
-            of_pairs(alloc, &targets, pairs, now)
+            of_pairs(alloc, &targets, &pairs, now)
         }
     }
 }
@@ -211,14 +212,14 @@ struct Targets {
 fn of_pairs(
     alloc: Global,
     targets: &Targets,
-    pairs: &[(Atom, Atom)],
+    pairs: &Items<'_, (Atom, Atom)>,
     now: &Value,
 ) -> Result<Vec<RowId>, AllocError>
     ensures { IfOk result (λ rows.
         rows.items ≡ flat_map (λ p. model.gained_of_pair targets.now.keys targets.now.values now.now (pair_of p)) pairs.now) }
 {
     let mut rows = Vec::new(alloc);
-    for pair in pairs {
+    for pair in pairs.iter() {
         append_pair(targets, pair, now, &mut rows)?;
     }
     Ok(rows)
@@ -236,8 +237,8 @@ fn append_pair(
     if !has_pair(now, pair) {
         return Ok(());
     }
-    append_elements(targets.keys, slice::from_ref(&pair.0), rows)?;
-    append_elements(targets.values, slice::from_ref(&pair.1), rows)
+    append_elements(targets.keys, &Items::of(slice::from_ref(&pair.0)), rows)?;
+    append_elements(targets.values, &Items::of(slice::from_ref(&pair.1)), rows)
 }
 
 /// Returns whether the value is a map that has the pair. O(log n) comparisons for n pairs.

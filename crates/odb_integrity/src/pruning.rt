@@ -25,6 +25,7 @@ use crate::references::{columns_of, referent, value_base, weak_target};
 use crate::row_id::RowId;
 use crate::suspects::may_be_stale;
 use odb_atoms::{Atom, ColType, Entries, Row, Value};
+use odb_chunks::Items;
 use odb_schema::{Column, Schema, TableId};
 use odb_tables::Draft;
 use std::alloc::{AllocError, Global};
@@ -122,14 +123,14 @@ pub(crate) fn has_stale(draft: &Draft, schema: &Schema, column: &ColType, value:
 {
     let keys = weak_target(schema, &column.key);
     match value.entries() {
-        Entries::Set(elements) => has_stale_element(draft, keys, elements),
+        Entries::Set(elements) => has_stale_element(draft, keys, &elements),
         Entries::Map(pairs) => {
-            has_stale_pair(draft, keys, weak_target(schema, value_base(column)), pairs)
+            has_stale_pair(draft, keys, weak_target(schema, value_base(column)), &pairs)
         }
     }
 }
 
-fn has_stale_element(draft: &Draft, target: Option<TableId>, elements: &[Atom]) -> bool
+fn has_stale_element(draft: &Draft, target: Option<TableId>, elements: &Items<'_, Atom>) -> bool
     ensures { result ≡ list_any (λ a. model.is_stale draft.now.now target (atom_of a)) elements.now }
 {
     elements.iter().any(|atom| is_stale(draft, target, atom))
@@ -139,7 +140,7 @@ fn has_stale_pair(
     draft: &Draft,
     keys: Option<TableId>,
     values: Option<TableId>,
-    pairs: &[(Atom, Atom)],
+    pairs: &Items<'_, (Atom, Atom)>,
 ) -> bool
     ensures { result
         ≡ list_any (λ p. model.is_stale draft.now.now keys (atom_of p.0)
@@ -225,10 +226,10 @@ fn pruned_value(
 {
     let keys = weak_target(schema, &column.key);
     match value.entries() {
-        Entries::Set(elements) => Ok(set_of(pruned_elements(alloc, draft, keys, elements)?)),
+        Entries::Set(elements) => Ok(set_of(pruned_elements(alloc, draft, keys, &elements)?)),
         Entries::Map(pairs) => {
             let values = weak_target(schema, value_base(column));
-            Ok(map_of(pruned_pairs(alloc, draft, keys, values, pairs)?))
+            Ok(map_of(pruned_pairs(alloc, draft, keys, values, &pairs)?))
         }
     }
 }
@@ -237,13 +238,13 @@ fn pruned_elements(
     alloc: Global,
     draft: &Draft,
     target: Option<TableId>,
-    elements: &[Atom],
+    elements: &Items<'_, Atom>,
 ) -> Result<Vec<Atom>, AllocError>
     ensures { IfOk result (λ pruned. map atom_of pruned.items
         ≡ map atom_of (filter (λ a. not (model.is_stale draft.now.now target (atom_of a))) elements.now)) }
 {
     let mut pruned = Vec::new(alloc);
-    for atom in elements {
+    for atom in elements.iter() {
         if !is_stale(draft, target, atom) {
             pruned.push(atom.try_copy(alloc)?)?;
         }
@@ -256,7 +257,7 @@ fn pruned_pairs(
     draft: &Draft,
     keys: Option<TableId>,
     values: Option<TableId>,
-    pairs: &[(Atom, Atom)],
+    pairs: &Items<'_, (Atom, Atom)>,
 ) -> Result<Vec<(Atom, Atom)>, AllocError>
     ensures { IfOk result (λ pruned. map pair_of pruned.items
         ≡ map pair_of (filter (λ p. not
@@ -264,7 +265,7 @@ fn pruned_pairs(
         || model.is_stale draft.now.now values (atom_of p.1))) pairs.now)) }
 {
     let mut pruned = Vec::new(alloc);
-    for pair in pairs {
+    for pair in pairs.iter() {
         if !is_stale_pair(draft, keys, values, pair) {
             pruned.push((pair.0.try_copy(alloc)?, pair.1.try_copy(alloc)?))?;
         }

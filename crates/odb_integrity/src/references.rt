@@ -14,6 +14,7 @@ ghost use Rattle.odb_schema.specs.Schema.{columns_at};
 
 use crate::row_id::RowId;
 use odb_atoms::{Atom, Base, ColType, Entries, Row, Value};
+use odb_chunks::Items;
 use odb_schema::{Column, Schema, TableId, TableSchema};
 use std::alloc::{AllocError, Global};
 
@@ -129,7 +130,7 @@ pub(crate) fn value_refers(
             has_pair_for(
                 keys,
                 strong_target(schema, value_base(column)),
-                pairs,
+                &pairs,
                 referent,
             )
         }
@@ -150,7 +151,7 @@ fn set_refers(target: Option<TableId>, value: &Value, referent: RowId) -> bool
 fn has_pair_for(
     keys: Option<TableId>,
     values: Option<TableId>,
-    pairs: &[(Atom, Atom)],
+    pairs: &Items<'_, (Atom, Atom)>,
     referent: RowId,
 ) -> bool
     ensures { result
@@ -198,11 +199,11 @@ pub(crate) fn append_value(
 {
     let keys = strong_target(schema, &column.key);
     match value.entries() {
-        Entries::Set(elements) => append_elements(keys, elements, rows),
+        Entries::Set(elements) => append_elements(keys, &elements, rows),
         Entries::Map(pairs) => {
-            append_side(keys, PairSide::Key, pairs, rows)?;
+            append_side(keys, PairSide::Key, &pairs, rows)?;
             let values = strong_target(schema, value_base(column));
-            append_side(values, PairSide::Value, pairs, rows)
+            append_side(values, PairSide::Value, &pairs, rows)
         }
     }
 }
@@ -283,7 +284,7 @@ fn append_referent(target: TableId, atom: &Atom, rows: &mut Vec<RowId>) -> Resul
 /// Appends the rows of the target that the elements name, of no target none. O(elements).
 pub(crate) fn append_elements(
     target: Option<TableId>,
-    elements: &[Atom],
+    elements: &Items<'_, Atom>,
     rows: &mut Vec<RowId>,
 ) -> Result<(), AllocError>
     ensures { OnOk result
@@ -292,7 +293,7 @@ pub(crate) fn append_elements(
     let Some(table) = target else {
         return Ok(());
     };
-    for atom in elements {
+    for atom in elements.iter() {
         append_referent(table, atom, rows)?;
     }
     Ok(())
@@ -317,7 +318,7 @@ fn atom_at(side: PairSide, pair: &(Atom, Atom)) -> &Atom
 fn append_side(
     target: Option<TableId>,
     side: PairSide,
-    pairs: &[(Atom, Atom)],
+    pairs: &Items<'_, (Atom, Atom)>,
     rows: &mut Vec<RowId>,
 ) -> Result<(), AllocError>
     ensures { OnOk result
@@ -327,7 +328,7 @@ fn append_side(
     let Some(table) = target else {
         return Ok(());
     };
-    for pair in pairs {
+    for pair in pairs.iter() {
         append_referent(table, atom_at(side, pair), rows)?;
     }
     Ok(())

@@ -19,6 +19,7 @@ use crate::pruning::{has_stale, is_stale, is_stale_pair};
 use crate::references::{columns_of, is_weak, value_base, weak_target};
 use crate::row_id::RowId;
 use odb_atoms::{Atom, ColType, Entries, Row, Value, difference};
+use odb_chunks::Items;
 use odb_schema::{Schema, TableId};
 use odb_tables::Draft;
 use std::alloc::{AllocError, Global};
@@ -136,13 +137,13 @@ fn has_stale_change(
 {
     let keys = weak_target(schema, &column.key);
     match change.entries() {
-        Entries::Set(elements) => has_stale_element_of(draft, keys, elements, now),
+        Entries::Set(elements) => has_stale_element_of(draft, keys, &elements, now),
         Entries::Map(pairs) => {
             has_stale_pair_of(
                 draft,
                 keys,
                 weak_target(schema, value_base(column)),
-                pairs,
+                &pairs,
                 now,
             )
         }
@@ -152,7 +153,7 @@ fn has_stale_change(
 fn has_stale_element_of(
     draft: &Draft,
     target: Option<TableId>,
-    elements: &[Atom],
+    elements: &Items<'_, Atom>,
     now: &Value,
 ) -> bool
     ensures { result
@@ -167,7 +168,7 @@ fn has_stale_pair_of(
     draft: &Draft,
     keys: Option<TableId>,
     values: Option<TableId>,
-    pairs: &[(Atom, Atom)],
+    pairs: &Items<'_, (Atom, Atom)>,
     now: &Value,
 ) -> bool
     ensures { result

@@ -26,7 +26,7 @@ use Rattle.odb_interest.specs.Represented.Found.{RowChange, names_in, names_some
 use Rattle.odb_interest.specs.Represented.Key.{held}
 use Rattle.odb_interest.specs.declared.column.SessionsByAtom.{SessionsByAtom}
 
-pub atoms-listed : (s : Bor (List Atom)) (v : Value) → Lists (entries.Set s) v → map atom_of s.now ≡ atoms_in v
+pub atoms-listed : (s : List Atom) (v : Value) → Lists (entries.Set s) v → map atom_of s ≡ atoms_in v
 atoms-listed s (set_of t) h = h
 atoms-listed s (map_of m) h = absurd h
 
@@ -34,21 +34,21 @@ keys-pairs : (ps : List (Atom × Atom)) → map (λ p. atom_of p.0) ps ≡ map (
 keys-pairs [] = refl
 keys-pairs (p ∷ ps) = ap (λ more. atom_of p.0 ∷ more) (keys-pairs ps)
 
-pub keys-listed : (s : Bor (List (Atom × Atom))) (v : Value) → Lists (entries.Map s) v → map (λ p. atom_of p.0) s.now ≡ atoms_in v
+pub keys-listed : (s : List (Atom × Atom)) (v : Value) → Lists (entries.Map s) v → map (λ p. atom_of p.0) s ≡ atoms_in v
 unfolding finite.keys
 keys-listed s (set_of t) h = absurd h
-keys-listed s (map_of m) h = keys-pairs s.now ∙ ap (map (λ p. p.0)) h
+keys-listed s (map_of m) h = keys-pairs s ∙ ap (map (λ p. p.0)) h
 
 -- an empty set has no atoms
 pub none_there : atoms_in (set_of set.empty) ≡ []
 unfolding finite.keys finite.empty
 none_there = refl
 
-pub any-listed : (p : model.Atom → Bool) (s : Bor (List Atom)) (v : Value) → Lists (entries.Set s) v → list_any (λ a. p (atom_of a)) s.now ≡ list_any p (atoms_in v)
-any-listed p s v h = sym (any-map p atom_of s.now) ∙ ap (list_any p) (atoms-listed s v h)
+pub any-listed : (p : model.Atom → Bool) (s : List Atom) (v : Value) → Lists (entries.Set s) v → list_any (λ a. p (atom_of a)) s ≡ list_any p (atoms_in v)
+any-listed p s v h = sym (any-map p atom_of s) ∙ ap (list_any p) (atoms-listed s v h)
 
-pub any-keys_listed : (p : model.Atom → Bool) (s : Bor (List (Atom × Atom))) (v : Value) → Lists (entries.Map s) v → list_any (λ e. p (atom_of e.0)) s.now ≡ list_any p (atoms_in v)
-any-keys_listed p s v h = sym (any-map p (λ e. atom_of e.0) s.now) ∙ ap (list_any p) (keys-listed s v h)
+pub any-keys_listed : (p : model.Atom → Bool) (s : List (Atom × Atom)) (v : Value) → Lists (entries.Map s) v → list_any (λ e. p (atom_of e.0)) s ≡ list_any p (atoms_in v)
+any-keys_listed p s v h = sym (any-map p (λ e. atom_of e.0) s) ∙ ap (list_any p) (keys-listed s v h)
 
 pub any_never : {X : Type 0} (p : X → Bool) (xs : List X) → ((x : X) → p x ≡ false) → list_any p xs ≡ false
 any_never p [] h = refl

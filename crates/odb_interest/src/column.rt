@@ -8,6 +8,7 @@ ghost use Rattle.odb_cond.specs.Represented.Clause.{selector_of};
 
 use crate::found::add_all;
 use odb_atoms::{Atom, Entries, Row, Value};
+use odb_chunks::Items;
 use odb_cond::Selector;
 use odb_locks::SessionId;
 use odb_tables::RowChange;
@@ -130,16 +131,20 @@ impl SessionsByAtom {
         ensures { OnOk result (Grows found.old found.new (λ s. list_any (λ a. names self.now a s) (atoms_in value.now))) }
     {
         match value.entries() {
-            Entries::Set(atoms) => self.find_each(atoms, found),
-            Entries::Map(pairs) => self.find_each_key(pairs, found),
+            Entries::Set(atoms) => self.find_each(&atoms, found),
+            Entries::Map(pairs) => self.find_each_key(&pairs, found),
         }
     }
 
     /// Adds the sessions that name one of the atoms.
-    fn find_each(&self, atoms: &[Atom], found: &mut BTreeSet<SessionId>) -> Result<(), AllocError>
+    fn find_each(
+        &self,
+        atoms: &Items<'_, Atom>,
+        found: &mut BTreeSet<SessionId>,
+    ) -> Result<(), AllocError>
         ensures { OnOk result (Grows found.old found.new (λ s. list_any (λ a. names self.now (atom_of a) s) atoms.now)) }
     {
-        for atom in atoms {
+        for atom in atoms.iter() {
             self.find_one(atom, found)?;
         }
         Ok(())
@@ -148,12 +153,12 @@ impl SessionsByAtom {
     /// Adds the sessions that name one of the keys.
     fn find_each_key(
         &self,
-        pairs: &[(Atom, Atom)],
+        pairs: &Items<'_, (Atom, Atom)>,
         found: &mut BTreeSet<SessionId>,
     ) -> Result<(), AllocError>
         ensures { OnOk result (Grows found.old found.new (λ s. list_any (λ p. names self.now (atom_of p.0) s) pairs.now)) }
     {
-        for pair in pairs {
+        for pair in pairs.iter() {
             self.find_one(&pair.0, found)?;
         }
         Ok(())

@@ -8,6 +8,7 @@ ghost use Rattle.odb_interest.specs.Represented.Key.{LacksKey, among, has_key, h
 
 use crate::asked::Asked;
 use odb_atoms::{Atom, Entries, Value};
+use odb_chunks::Items;
 use odb_cond::{Clause, Filter, Function, Member, Selector};
 use odb_schema::TableId;
 
@@ -162,16 +163,16 @@ fn first_atom(value: &Value) -> Option<&Atom>
 {
     match value.entries() {
         Entries::Set(atoms) => atoms.first(),
-        Entries::Map(pairs) => first_key(pairs),
+        Entries::Map(pairs) => first_key(&pairs),
     }
 }
 
 /// Returns the key of the first pair.
-fn first_key(pairs: &[(Atom, Atom)]) -> Option<&Atom>
+fn first_key<'a>(pairs: &Items<'a, (Atom, Atom)>) -> Option<&'a Atom>
     ensures { option_map (λ a. atom_of a.now) result ≡ first_in (map (λ p. atom_of p.0) pairs.now) }
 {
-    match pairs {
-        [first, ..] => Some(&first.0),
-        [] => None,
+    match pairs.first() {
+        Some(first) => Some(&first.0),
+        None => None,
     }
 }

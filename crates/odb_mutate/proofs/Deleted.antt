@@ -1,6 +1,5 @@
 -- What a value has of another, by which the rest differs from it.
 use Rattle.std.specs.Prelude.{◌≡◌, Bool, true, false, cond, not, ◌&&◌, ◌||◌, List, [], ◌∷◌, map, filter, filter_map, is_some, Option, Some, None, option_and_then, option_map, Result, Ok}
-use Rattle.std.specs.Borrow.{Bor}
 use Rattle.std.specs.List.{cons_option, list_all, list_any}
 use Rattle.std.specs.FinMap.Entries.{find}
 use Rattle.std.specs.declared.cmp.Ordering.{Ordering}
@@ -75,14 +74,14 @@ common-elements s t =
     without false true = refl
     without false false = refl
 
-pub elements_fault : (s t : Bor (List (code.Atom))) (v w : Value) (once : List (code.Atom)) → Lists (entries.Set s) v → Lists (entries.Set t) w → HasKinds v → map atom_of once ≡ map atom_of (filter (λ x. has v (atom_of x)) t.now) → set_fault (map atom_of once) ≡ None
+pub elements_fault : (s t : List (code.Atom)) (v w : Value) (once : List (code.Atom)) → Lists (entries.Set s) v → Lists (entries.Set t) w → HasKinds v → map atom_of once ≡ map atom_of (filter (λ x. has v (atom_of x)) t) → set_fault (map atom_of once) ≡ None
 elements_fault s t (set_of a) (set_of b) once in_s in_t of one =
     ap set_fault (kept_elements t b (set.contains a) once in_t one)
     ∙ some_elements of.0 (set.contains a) b (all-where (is_a of.0) (set.contains a) (element-is (is_a of.0) a of.2) (set.items b))
 elements_fault s t (set_of a) (map_of n) once in_s in_t of one = absurd in_t
 elements_fault s t (map_of m) w once in_s in_t of one = absurd in_s
 
-pub elements_deleted : (s t : Bor (List (code.Atom))) (v w : Value) (once : List (code.Atom)) → Lists (entries.Set s) v → Lists (entries.Set t) w → map atom_of once ≡ map atom_of (filter (λ x. has v (atom_of x)) t.now) → ◌≡◌ {A = Result Value Error} (Ok (changed v (set_of (atoms (map atom_of once))))) (result_of delete v w)
+pub elements_deleted : (s t : List (code.Atom)) (v w : Value) (once : List (code.Atom)) → Lists (entries.Set s) v → Lists (entries.Set t) w → map atom_of once ≡ map atom_of (filter (λ x. has v (atom_of x)) t) → ◌≡◌ {A = Result Value Error} (Ok (changed v (set_of (atoms (map atom_of once))))) (result_of delete v w)
 elements_deleted s t (set_of a) (set_of b) once in_s in_t one =
     ap (λ zs. let r : Result Value Error = Ok (set_of (set.symmetric_difference a (atoms zs))) in r) (kept_elements t b (set.contains a) once in_t one) ∙ ap (λ x. Ok (set_of x)) (common-elements a b)
 elements_deleted s t (set_of a) (map_of n) once in_s in_t one = absurd in_t
@@ -144,17 +143,17 @@ common-keys m s =
     without (Some a) true = ap (λ b. cond b None (Some a)) (same_atom-itself a)
     without (Some a) false = refl
 
-listed_at : (t : Bor (List (code.Atom))) (m : Pairs) (b : Atoms) (once : List (code.Atom × code.Atom)) → map atom_of t.now ≡ set.items b → map pair_of once ≡ pairs_at m (map atom_of t.now) → map pair_of once ≡ pairs_at m (set.items b)
+listed_at : (t : List (code.Atom)) (m : Pairs) (b : Atoms) (once : List (code.Atom × code.Atom)) → map atom_of t ≡ set.items b → map pair_of once ≡ pairs_at m (map atom_of t) → map pair_of once ≡ pairs_at m (set.items b)
 listed_at t m b once in_t one = one ∙ ap (pairs_at m) in_t
 
-pub keys_fault : (s : Bor (List (code.Atom × code.Atom))) (t : Bor (List (code.Atom))) (v w : Value) (once : List (code.Atom × code.Atom)) → Lists (entries.Map s) v → Lists (entries.Set t) w → HasKinds v → map pair_of once ≡ filter_map (pair_at v) (map atom_of t.now) → map_fault (map pair_of once) ≡ None
+pub keys_fault : (s : List (code.Atom × code.Atom)) (t : List (code.Atom)) (v w : Value) (once : List (code.Atom × code.Atom)) → Lists (entries.Map s) v → Lists (entries.Set t) w → HasKinds v → map pair_of once ≡ filter_map (pair_at v) (map atom_of t) → map_fault (map pair_of once) ≡ None
 keys_fault s t (map_of m) (set_of b) once in_s in_t of one =
     ap map_fault (listed_at t m b once in_t one)
     ∙ map_fault-none of.0 of.1 _ (all-pairs_at (λ e. is_a of.0 e.0 && is_a of.1 e.1) m of.2 (set.items b)) (subst IsDistinct (sym (keys-pairs_at m (set.items b))) (distinct-kept (finite.contains_key m) b))
 keys_fault s t (map_of m) (map_of n) once in_s in_t of one = absurd in_t
 keys_fault s t (set_of a) w once in_s in_t of one = absurd in_s
 
-pub keys_deleted : (s : Bor (List (code.Atom × code.Atom))) (t : Bor (List (code.Atom))) (v w : Value) (once : List (code.Atom × code.Atom)) → Lists (entries.Map s) v → Lists (entries.Set t) w → map pair_of once ≡ filter_map (pair_at v) (map atom_of t.now) → ◌≡◌ {A = Result Value Error} (Ok (changed v (map_of (finite.from_entries (map pair_of once))))) (result_of delete v w)
+pub keys_deleted : (s : List (code.Atom × code.Atom)) (t : List (code.Atom)) (v w : Value) (once : List (code.Atom × code.Atom)) → Lists (entries.Map s) v → Lists (entries.Set t) w → map pair_of once ≡ filter_map (pair_at v) (map atom_of t) → ◌≡◌ {A = Result Value Error} (Ok (changed v (map_of (finite.from_entries (map pair_of once))))) (result_of delete v w)
 keys_deleted s t (map_of m) (set_of b) once in_s in_t one =
     ap (λ es. let r : Result Value Error = Ok (map_of (changed_pairs m (finite.from_entries es))) in r) (listed_at t m b once in_t one) ∙ ap (λ x. Ok (map_of x)) (common-keys m b)
 keys_deleted s t (map_of m) (map_of n) once in_s in_t one = absurd in_t
@@ -190,7 +189,7 @@ common-pairs m n =
         by true t = ap (λ u. cond u None (Some b)) t ∙ ap (λ u. cond u None (Some a)) (sym t ∙ same-turned a b)
         by false t = ap (λ u. cond u None (Some a)) (sym t ∙ same-turned a b)
 
-pub pairs_fault : (s t : Bor (List (code.Atom × code.Atom))) (v w : Value) (once : List (code.Atom × code.Atom)) → Lists (entries.Map s) v → Lists (entries.Map t) w → HasKinds v → map pair_of once ≡ map pair_of (filter (λ p. has_at v (pair_of p)) t.now) → map_fault (map pair_of once) ≡ None
+pub pairs_fault : (s t : List (code.Atom × code.Atom)) (v w : Value) (once : List (code.Atom × code.Atom)) → Lists (entries.Map s) v → Lists (entries.Map t) w → HasKinds v → map pair_of once ≡ map pair_of (filter (λ p. has_at v (pair_of p)) t) → map_fault (map pair_of once) ≡ None
 pairs_fault s t (map_of m) (map_of n) once in_s in_t of one =
     let kinds : Atom × Atom → Bool = λ e. is_a of.0 e.0 && is_a of.1 e.1 in
     ap map_fault (kept_pairs t n (has_pair m) once in_t one)
@@ -198,7 +197,7 @@ pairs_fault s t (map_of m) (map_of n) once in_s in_t of one =
 pairs_fault s t (map_of m) (set_of b) once in_s in_t of one = absurd in_t
 pairs_fault s t (set_of a) w once in_s in_t of one = absurd in_s
 
-pub pairs_deleted : (s t : Bor (List (code.Atom × code.Atom))) (v w : Value) (once : List (code.Atom × code.Atom)) → Lists (entries.Map s) v → Lists (entries.Map t) w → map pair_of once ≡ map pair_of (filter (λ p. has_at v (pair_of p)) t.now) → ◌≡◌ {A = Result Value Error} (Ok (changed v (map_of (finite.from_entries (map pair_of once))))) (result_of delete v w)
+pub pairs_deleted : (s t : List (code.Atom × code.Atom)) (v w : Value) (once : List (code.Atom × code.Atom)) → Lists (entries.Map s) v → Lists (entries.Map t) w → map pair_of once ≡ map pair_of (filter (λ p. has_at v (pair_of p)) t) → ◌≡◌ {A = Result Value Error} (Ok (changed v (map_of (finite.from_entries (map pair_of once))))) (result_of delete v w)
 pairs_deleted s t (map_of m) (map_of n) once in_s in_t one =
     ap (λ es. let r : Result Value Error = Ok (map_of (changed_pairs m (finite.from_entries es))) in r) (kept_pairs t n (has_pair m) once in_t one) ∙ ap (λ x. Ok (map_of x)) (common-pairs m n)
 pairs_deleted s t (map_of m) (set_of b) once in_s in_t one = absurd in_t

@@ -1,6 +1,5 @@
 -- What a value has and what it lacks of another, by which the two together differ from it.
 use Rattle.std.specs.Prelude.{◌≡◌, Bool, true, false, cond, not, ◌&&◌, ◌||◌, List, map, filter, is_some, Option, Some, None, Result, Ok}
-use Rattle.std.specs.Borrow.{Bor}
 use mathlib.Core.Path.{refl, sym, ap, ◌∙◌}
 use mathlib.Core.Bool.{xor}
 use Rattle.odb_atoms.specs.FinMap as finite
@@ -58,26 +57,26 @@ lacking-pairs m n =
     by None (Some b) = refl
     by (Some a) y = refl
 
-pub elements_fault : (s t : Bor (List (code.Atom))) (v w : Value) (once : List (code.Atom)) → Lists (entries.Set s) v → Lists (entries.Set t) w → HasKinds w → map atom_of once ≡ map atom_of (filter (λ x. not (has v (atom_of x))) t.now) → set_fault (map atom_of once) ≡ None
+pub elements_fault : (s t : List (code.Atom)) (v w : Value) (once : List (code.Atom)) → Lists (entries.Set s) v → Lists (entries.Set t) w → HasKinds w → map atom_of once ≡ map atom_of (filter (λ x. not (has v (atom_of x))) t) → set_fault (map atom_of once) ≡ None
 elements_fault s t (set_of a) (set_of b) once in_s in_t of one =
     let p : Atom → Bool = λ x. not (set.contains a x) in
     ap set_fault (kept_elements t b p once in_t one) ∙ some_elements of.0 p b (all-filter (is_a of.0) p (set.items b) of.2)
 elements_fault s t (set_of a) (map_of n) once in_s in_t of one = absurd in_t
 elements_fault s t (map_of m) w once in_s in_t of one = absurd in_s
 
-pub pairs_fault : (t : Bor (List (code.Atom × code.Atom))) (v w : Value) (once : List (code.Atom × code.Atom)) → Lists (entries.Map t) w → HasKinds w → map pair_of once ≡ map pair_of (filter (λ p. not (has v (atom_of p.0))) t.now) → map_fault (map pair_of once) ≡ None
+pub pairs_fault : (t : List (code.Atom × code.Atom)) (v w : Value) (once : List (code.Atom × code.Atom)) → Lists (entries.Map t) w → HasKinds w → map pair_of once ≡ map pair_of (filter (λ p. not (has v (atom_of p.0))) t) → map_fault (map pair_of once) ≡ None
 pairs_fault t v (map_of n) once in_t of one =
     let p : Atom × Atom → Bool = λ e. not (has v e.0) in
     ap map_fault (kept_pairs t n p once in_t one) ∙ some_pairs of.0 of.1 p n (all-filter (λ e. is_a of.0 e.0 && is_a of.1 e.1) p n.entries of.2)
 pairs_fault t v (set_of b) once in_t of one = absurd in_t
 
-pub elements_inserted : (s t : Bor (List (code.Atom))) (v w : Value) (once : List (code.Atom)) → Lists (entries.Set s) v → Lists (entries.Set t) w → map atom_of once ≡ map atom_of (filter (λ x. not (has v (atom_of x))) t.now) → ◌≡◌ {A = Result Value Error} (Ok (changed v (set_of (atoms (map atom_of once))))) (result_of insert v w)
+pub elements_inserted : (s t : List (code.Atom)) (v w : Value) (once : List (code.Atom)) → Lists (entries.Set s) v → Lists (entries.Set t) w → map atom_of once ≡ map atom_of (filter (λ x. not (has v (atom_of x))) t) → ◌≡◌ {A = Result Value Error} (Ok (changed v (set_of (atoms (map atom_of once))))) (result_of insert v w)
 elements_inserted s t (set_of a) (set_of b) once in_s in_t one =
     ap (λ zs. let r : Result Value Error = Ok (set_of (set.symmetric_difference a (atoms zs))) in r) (kept_elements t b (λ x. not (set.contains a x)) once in_t one) ∙ ap (λ x. Ok (set_of x)) (lacking-elements a b)
 elements_inserted s t (set_of a) (map_of n) once in_s in_t one = absurd in_t
 elements_inserted s t (map_of m) w once in_s in_t one = absurd in_s
 
-pub pairs_inserted : (s t : Bor (List (code.Atom × code.Atom))) (v w : Value) (once : List (code.Atom × code.Atom)) → Lists (entries.Map s) v → Lists (entries.Map t) w → map pair_of once ≡ map pair_of (filter (λ p. not (has v (atom_of p.0))) t.now) → ◌≡◌ {A = Result Value Error} (Ok (changed v (map_of (finite.from_entries (map pair_of once))))) (result_of insert v w)
+pub pairs_inserted : (s t : List (code.Atom × code.Atom)) (v w : Value) (once : List (code.Atom × code.Atom)) → Lists (entries.Map s) v → Lists (entries.Map t) w → map pair_of once ≡ map pair_of (filter (λ p. not (has v (atom_of p.0))) t) → ◌≡◌ {A = Result Value Error} (Ok (changed v (map_of (finite.from_entries (map pair_of once))))) (result_of insert v w)
 pairs_inserted s t (map_of m) (map_of n) once in_s in_t one =
     ap (λ es. let r : Result Value Error = Ok (map_of (changed_pairs m (finite.from_entries es))) in r) (kept_pairs t n (λ e. not (finite.contains_key m e.0)) once in_t one) ∙ ap (λ x. Ok (map_of x)) (lacking-pairs m n)
 pairs_inserted s t (map_of m) (set_of b) once in_s in_t one = absurd in_t

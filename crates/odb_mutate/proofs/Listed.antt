@@ -1,8 +1,9 @@
 -- The lists that the code makes of the entries of a value: of all, and of some of them.
 use Rattle.std.specs.Prelude.{◌≡◌, Bool, true, false, ◌&&◌, length, List, [], ◌∷◌, map, filter, None}
-use Rattle.std.specs.Borrow.{Bor}
 use Rattle.std.specs.List.{list_all}
+use Rattle.std.proofs.Common.{arith}
 use Rattle.std.proofs.lemmas.List.{length-map}
+use Rattle.std.proofs.lemmas.Option.{none-some}
 use Rattle.std.proofs.lemmas.List.Folds.{list_all-map}
 use mathlib.Core.Path.{sym, ap, subst, ◌∙◌}
 use mathlib.Core.Bool.{true≢false}
@@ -18,6 +19,7 @@ use Rattle.odb_atoms.specs.Represented.Atom.{atom_of}
 use Rattle.odb_atoms.specs.Represented.Value.{pair_of}
 use Rattle.odb_atoms.specs.declared.atom.Atom.{Atom}
 use Rattle.odb_atoms.proofs.Lists.{both}
+use Rattle.odb_chunks.specs.Represented.Chunks.{lone_of}
 use Rattle.odb_mutate.specs.Mutation.{calculate_atom, calculate_each, result_of, set_of_results}
 use Rattle.odb_mutate.specs.Represented.Kinds.{AreIntegers, HasOneElement, IsOf, elements_in}
 use Rattle.odb_mutate.specs.Represented.Mutation.{operator_of}
@@ -33,8 +35,14 @@ unfolding finite.keys finite.len
 length-elements (set_of s) e = sym (length-map s.entries _)
 length-elements (map_of m) e = absurd (true≢false e)
 
-pub one_listed : (xs : List Atom) (v : Value) → HasOneElement v → map atom_of xs ≡ elements_in v → length xs ≡ 1
+one_listed : (xs : List Atom) (v : Value) → HasOneElement v → map atom_of xs ≡ elements_in v → length xs ≡ 1
 one_listed xs v h is = sym (length-map xs atom_of) ∙ ap length is ∙ sym (length-elements v h.0) ∙ h.1
+
+-- of one element, it isn't so that none lies alone
+pub one_alone : (xs : List Atom) (v : Value) → HasOneElement v → map atom_of xs ≡ elements_in v → None ≡ lone_of xs → ⊥
+one_alone [] v h is none = omega (arith, one_listed [] v h is)
+one_alone (x ∷ []) v h is none = none-some x none
+one_alone (x ∷ y ∷ ys) v h is none = omega (arith, one_listed (x ∷ y ∷ ys) v h is)
 
 pub kinds-of : (k l : Kind) (v : Value) → is_map v ≡ false → IsOf k l v → list_all (is_a k) (elements_in v) ≡ true
 kinds-of k l (set_of s) e of = of
@@ -63,8 +71,8 @@ distinct-kept p s = subst IsDistinct (filter-map (λ e. e.0) p s.entries) (disti
 pub some_elements : (k : Kind) (p : model.Atom → Bool) (s : Atoms) → list_all (is_a k) (filter p (set.items s)) ≡ true → set_fault (filter p (set.items s)) ≡ None
 some_elements k p s all = set_fault-none k _ all (distinct-kept p s)
 
-pub kept_elements : (s : Bor (List Atom)) (a : Atoms) (p : model.Atom → Bool) (once : List Atom) → map atom_of s.now ≡ set.items a → map atom_of once ≡ map atom_of (filter (λ x. p (atom_of x)) s.now) → map atom_of once ≡ filter p (set.items a)
-kept_elements s a p once in_s one = one ∙ filter-map atom_of p s.now ∙ ap (filter p) in_s
+pub kept_elements : (s : List Atom) (a : Atoms) (p : model.Atom → Bool) (once : List Atom) → map atom_of s ≡ set.items a → map atom_of once ≡ map atom_of (filter (λ x. p (atom_of x)) s) → map atom_of once ≡ filter p (set.items a)
+kept_elements s a p once in_s one = one ∙ filter-map atom_of p s ∙ ap (filter p) in_s
 
 -- ---- maps
 
@@ -72,5 +80,5 @@ kept_elements s a p once in_s one = one ∙ filter-map atom_of p s.now ∙ ap (f
 pub some_pairs : (k l : Kind) (p : model.Atom × model.Atom → Bool) (m : Pairs) → list_all (λ e. is_a k e.0 && is_a l e.1) (filter p m.entries) ≡ true → map_fault (filter p m.entries) ≡ None
 some_pairs k l p m all = map_fault-none k l _ all (distinct-filter (λ e. e.0) p m.entries (distinct-rising m.entries m.sorted))
 
-pub kept_pairs : (s : Bor (List (Atom × Atom))) (m : Pairs) (p : model.Atom × model.Atom → Bool) (once : List (Atom × Atom)) → map pair_of s.now ≡ m.entries → map pair_of once ≡ map pair_of (filter (λ x. p (pair_of x)) s.now) → map pair_of once ≡ filter p m.entries
-kept_pairs s m p once in_s one = one ∙ filter-map pair_of p s.now ∙ ap (filter p) in_s
+pub kept_pairs : (s : List (Atom × Atom)) (m : Pairs) (p : model.Atom × model.Atom → Bool) (once : List (Atom × Atom)) → map pair_of s ≡ m.entries → map pair_of once ≡ map pair_of (filter (λ x. p (pair_of x)) s) → map pair_of once ≡ filter p m.entries
+kept_pairs s m p once in_s one = one ∙ filter-map pair_of p s ∙ ap (filter p) in_s

@@ -8,12 +8,13 @@ ghost use Rattle.odb_atoms.specs.Value.{atoms, is_map};
 ghost use Rattle.odb_mutate.specs.Represented.Kinds.{HasOneElement, elements_in};
 
 use odb_atoms::{Atom, Entries, Value};
+use odb_chunks::Items;
 use std::alloc::{AllocError, Global};
 
 /// Returns the elements of a set, in ascending order.
-pub fn of(value: &Value) -> &[Atom]
+pub fn of(value: &Value) -> Items<'_, Atom>
     requires { is_map value.now ≡ false }
-    ensures { map atom_of result.now ≡ elements_in value.now }
+    ensures { map atom_of result ≡ elements_in value.now }
 {
     match value.entries() {
         Entries::Set(elements) => elements,
@@ -26,17 +27,17 @@ pub fn lone(value: &Value) -> &Atom
     requires { HasOneElement value.now }
     ensures { elements_in value.now ≡ atom_of result.now ∷ [] }
 {
-    match of(value) {
-        [element] => element,
-        _ => unreachable!(),
-    }
+    let Some(element) = of(value).lone() else {
+        unreachable!();
+    };
+    element
 }
 
 /// Adds copies of the elements that the value doesn't have to the list. O(log n) comparisons for
 /// each of them, for a value of n elements or keys.
 pub fn append_others(
     alloc: Global,
-    elements: &[Atom],
+    elements: &Items<'_, Atom>,
     value: &Value,
     list: &mut Vec<Atom>,
 ) -> Result<(), AllocError>
@@ -45,7 +46,7 @@ pub fn append_others(
         ≡ map atom_of list.old.items
         ++ map atom_of (filter (λ a. not (has value.now (atom_of a))) elements.now)) }
 {
-    for element in elements {
+    for element in elements.iter() {
         if !value.contains(element) {
             list.push(element.try_copy(alloc)?)?;
         }
@@ -57,7 +58,7 @@ pub fn append_others(
 /// them, for a value of n elements or keys.
 pub fn append_common(
     alloc: Global,
-    elements: &[Atom],
+    elements: &Items<'_, Atom>,
     value: &Value,
     list: &mut Vec<Atom>,
 ) -> Result<(), AllocError>
@@ -66,7 +67,7 @@ pub fn append_common(
         ≡ map atom_of list.old.items
         ++ map atom_of (filter (λ a. has value.now (atom_of a)) elements.now)) }
 {
-    for element in elements {
+    for element in elements.iter() {
         if value.contains(element) {
             list.push(element.try_copy(alloc)?)?;
         }

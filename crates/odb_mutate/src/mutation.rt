@@ -160,7 +160,7 @@ fn calculate(
         ≡ result_of (operator_of operator) value.now operand.now) }
 {
     let operand = elements::lone(operand);
-    match operator.calculate_each(alloc, elements::of(value), operand)? {
+    match operator.calculate_each(alloc, &elements::of(value), operand)? {
         Ok(results) => Ok(set_of_results(results)),
         Err(fault) => Ok(Err(fault)),
     }
@@ -185,13 +185,13 @@ fn insert(alloc: Global, value: &Value, added: &Value) -> Result<Value, AllocErr
     match (value.entries(), added.entries()) {
         (Entries::Set(elements), Entries::Set(others)) => {
             let mut new = Vec::new(alloc);
-            elements::append_others(alloc, others, value, &mut new)?;
+            elements::append_others(alloc, &others, value, &mut new)?;
             let lacking = elements::set_of(new);
             changed(alloc, value, &lacking)
         }
         (Entries::Map(pairs), Entries::Map(others)) => {
             let mut new = Vec::new(alloc);
-            pairs::append_others(alloc, others, value, &mut new)?;
+            pairs::append_others(alloc, &others, value, &mut new)?;
             let lacking = pairs::map_of(new);
             changed(alloc, value, &lacking)
         }
@@ -208,19 +208,19 @@ fn delete(alloc: Global, value: &Value, deleted: &Value) -> Result<Value, AllocE
     match (value.entries(), deleted.entries()) {
         (Entries::Set(_), Entries::Set(elements)) => {
             let mut common = Vec::new(alloc);
-            elements::append_common(alloc, elements, value, &mut common)?;
+            elements::append_common(alloc, &elements, value, &mut common)?;
             let present = elements::set_of(common);
             changed(alloc, value, &present)
         }
         (Entries::Map(_), Entries::Set(keys)) => {
             let mut common = Vec::new(alloc);
-            pairs::append_at(alloc, keys, value, &mut common)?;
+            pairs::append_at(alloc, &keys, value, &mut common)?;
             let present = pairs::map_of(common);
             changed(alloc, value, &present)
         }
         (Entries::Map(_), Entries::Map(pairs)) => {
             let mut common = Vec::new(alloc);
-            pairs::append_common(alloc, pairs, value, &mut common)?;
+            pairs::append_common(alloc, &pairs, value, &mut common)?;
             let present = pairs::map_of(common);
             changed(alloc, value, &present)
         }

@@ -11,6 +11,7 @@ ghost use Rattle.odb_mutate.specs.Represented.Mutation.{answered, operator_of};
 
 use crate::mutation::MutationFault;
 use odb_atoms::Atom;
+use odb_chunks::Items;
 use std::alloc::{AllocError, Global};
 
 /// An arithmetic mutator (RFC 7047, section 5.1, `<mutator>`).
@@ -33,7 +34,7 @@ impl Operator {
     pub(crate) fn calculate_each(
         self,
         alloc: Global,
-        elements: &[Atom],
+        elements: &Items<'_, Atom>,
         operand: &Atom,
     ) -> Result<Result<Vec<Atom>, MutationFault>, AllocError>
         requires elements { IsTrue (each_element (is_a integers) elements.now) }
@@ -45,7 +46,7 @@ impl Operator {
             (map atom_of elements.now)) }
     {
         let mut results = Vec::with_capacity(alloc, elements.len())?;
-        for element in elements {
+        for element in elements.iter() {
             match self.calculate_atom(element, operand) {
                 Ok(result) => results.push(result)?,
                 Err(fault) => return Ok(Err(fault)),

@@ -9,13 +9,14 @@ ghost use Rattle.odb_atoms.specs.Value as model;
 ghost use Rattle.odb_mutate.specs.Represented.Kinds.{has_at, pair_at};
 
 use odb_atoms::{Atom, Value};
+use odb_chunks::Items;
 use std::alloc::{AllocError, Global};
 
 /// Adds copies of the pairs whose key the value doesn't have to the list. O(log n) comparisons for
 /// each of them, for a value of n elements or keys.
 pub fn append_others(
     alloc: Global,
-    pairs: &[(Atom, Atom)],
+    pairs: &Items<'_, (Atom, Atom)>,
     value: &Value,
     list: &mut Vec<(Atom, Atom)>,
 ) -> Result<(), AllocError>
@@ -24,7 +25,7 @@ pub fn append_others(
         ≡ map pair_of list.old.items
         ++ map pair_of (filter (λ p. not (has value.now (atom_of p.0))) pairs.now)) }
 {
-    for pair in pairs {
+    for pair in pairs.iter() {
         if !value.contains(&pair.0) {
             list.push(copy_of(alloc, pair)?)?;
         }
@@ -36,7 +37,7 @@ pub fn append_others(
 /// for a map of n pairs.
 pub fn append_common(
     alloc: Global,
-    pairs: &[(Atom, Atom)],
+    pairs: &Items<'_, (Atom, Atom)>,
     value: &Value,
     list: &mut Vec<(Atom, Atom)>,
 ) -> Result<(), AllocError>
@@ -45,7 +46,7 @@ pub fn append_common(
         ≡ map pair_of list.old.items
         ++ map pair_of (filter (λ p. has_at value.now (pair_of p)) pairs.now)) }
 {
-    for pair in pairs {
+    for pair in pairs.iter() {
         if has_pair(value, pair) {
             list.push(copy_of(alloc, pair)?)?;
         }
@@ -57,7 +58,7 @@ pub fn append_common(
 /// a map of n pairs.
 pub fn append_at(
     alloc: Global,
-    keys: &[Atom],
+    keys: &Items<'_, Atom>,
     value: &Value,
     list: &mut Vec<(Atom, Atom)>,
 ) -> Result<(), AllocError>
@@ -65,7 +66,7 @@ pub fn append_at(
         (map pair_of list.new.items
         ≡ map pair_of list.old.items ++ filter_map (pair_at value.now) (map atom_of keys.now)) }
 {
-    for key in keys {
+    for key in keys.iter() {
         append_one_at(alloc, key, value, list)?;
     }
     Ok(())

@@ -2,6 +2,8 @@
 use denote.Param.Send.{IsSend, IsSync, owning_send, part_keyless, sendable}
 use denote.Ref.{NamedLft}
 use Rattle.std.proofs.Crossing as heap
+use Rattle.odb_atoms.proofs.row.Row.TheSendSync as row
+use Rattle.odb_atoms.specs.contracts.row.Row as Row
 use Rattle.odb_chain.proofs.chains.Chains.TheSendSync as chains
 use Rattle.odb_chain.specs.contracts.chains.Chains as Chains
 use Rattle.odb_chain.specs.contracts.content.Content as Content
@@ -90,3 +92,8 @@ pub Picked-sync : (κ κ' : NamedLft) → IsSync (Picked.the_field κ κ').row
 Picked-sync κ κ' = search (Job-sync, Found-sync, sendable, heap.crosses) depth 20
 
 pub ruleset crosses = (Picked-sync, Listing-sync, sendable, heap.crosses)
+
+pub Row-sync : IsSync (Row.the_field).row
+Row-sync = row.the_sync
+
+pub ruleset rows_cross = (Row-sync, sendable, heap.crosses)

@@ -11,6 +11,7 @@ ghost use Rattle.odb_schema.specs.Notation as notation;
 use crate::printer::Printer;
 use json::Token;
 use odb_atoms::{Atom, Entries, Value};
+use odb_chunks::Items;
 use std::alloc::AllocError;
 use uuid::Uuid;
 
@@ -63,11 +64,11 @@ fn put_atom(out: &mut Printer, atom: &Atom) -> Result<(), AllocError>
 }
 
 /// Atoms, one after the other.
-fn put_atoms(out: &mut Printer, atoms: &[Atom]) -> Result<(), AllocError>
+fn put_atoms(out: &mut Printer, atoms: &Items<'_, Atom>) -> Result<(), AllocError>
     ensures { OnOk result (out.new
         ≡ out.old ++ flat_map (λ a. tokens_of (notation.write_atom a)) (map atom_of atoms.now)) }
 {
-    for atom in atoms {
+    for atom in atoms.iter() {
         put_atom(out, atom)?;
     }
     Ok(())
@@ -92,7 +93,7 @@ fn end_tagged(out: &mut Printer) -> Result<(), AllocError>
 }
 
 /// Prints `["set", [atom, ..]]`.
-fn put_set_of(out: &mut Printer, atoms: &[Atom]) -> Result<(), AllocError>
+fn put_set_of(out: &mut Printer, atoms: &Items<'_, Atom>) -> Result<(), AllocError>
     ensures { OnOk result (out.new ≡ out.old ++ tokens_of
         (array_of (string (codes "set") ∷ array_of (map notation.write_atom (map atom_of atoms.now)) ∷ []))) }
 {
@@ -103,13 +104,13 @@ fn put_set_of(out: &mut Printer, atoms: &[Atom]) -> Result<(), AllocError>
 
 /// Prints a set, of which one atom stands alone.
 #[inline(always)]
-fn put_set(out: &mut Printer, atoms: &[Atom]) -> Result<(), AllocError>
+fn put_set(out: &mut Printer, atoms: &Items<'_, Atom>) -> Result<(), AllocError>
     ensures { OnOk result (out.new
         ≡ out.old ++ tokens_of (notation.write_atoms (map atom_of atoms.now))) }
 {
-    match atoms {
-        [atom] => put_atom(out, atom),
-        _ => put_set_of(out, atoms),
+    match atoms.lone() {
+        Some(atom) => put_atom(out, atom),
+        None => put_set_of(out, atoms),
     }
 }
 
@@ -124,18 +125,18 @@ fn put_pair(out: &mut Printer, pair: &(Atom, Atom)) -> Result<(), AllocError>
 }
 
 /// Pairs, one after the other.
-fn put_pairs(out: &mut Printer, pairs: &[(Atom, Atom)]) -> Result<(), AllocError>
+fn put_pairs(out: &mut Printer, pairs: &Items<'_, (Atom, Atom)>) -> Result<(), AllocError>
     ensures { OnOk result (out.new
         ≡ out.old ++ flat_map (λ e. tokens_of (notation.write_pair e)) (map pair_of pairs.now)) }
 {
-    for pair in pairs {
+    for pair in pairs.iter() {
         put_pair(out, pair)?;
     }
     Ok(())
 }
 
 /// Prints `["map", [pair, ..]]`.
-fn put_map(out: &mut Printer, pairs: &[(Atom, Atom)]) -> Result<(), AllocError>
+fn put_map(out: &mut Printer, pairs: &Items<'_, (Atom, Atom)>) -> Result<(), AllocError>
     ensures { OnOk result (out.new ≡ out.old ++ tokens_of
         (array_of (string (codes "map") ∷ array_of (map notation.write_pair (map pair_of pairs.now)) ∷ []))) }
 {
@@ -150,8 +151,8 @@ pub fn put_value(out: &mut Printer, value: &Value) -> Result<(), AllocError>
     ensures { OnOk result (out.new ≡ out.old ++ tokens_of (notation.write_value value.now)) }
 {
     match value.entries() {
-        Entries::Set(atoms) => put_set(out, atoms),
-        Entries::Map(pairs) => put_map(out, pairs),
+        Entries::Set(atoms) => put_set(out, &atoms),
+        Entries::Map(pairs) => put_map(out, &pairs),
     }
 }
 

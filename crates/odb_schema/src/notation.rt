@@ -13,6 +13,7 @@ ghost use Rattle.odb_schema.specs.Json.{array_of, string};
 ghost use Rattle.odb_schema.specs.Notation as notation;
 
 use odb_atoms::{Atom, Entries};
+use odb_chunks::Items;
 use serde_json::Value;
 use std::alloc::{AllocError, Global};
 use uuid::Uuid;
@@ -98,23 +99,23 @@ fn write_atom(alloc: Global, atom: &Atom) -> Result<Value, AllocError>
     }
 }
 
-fn write_all(alloc: Global, atoms: &[Atom]) -> Result<Vec<Value>, AllocError>
+fn write_all(alloc: Global, atoms: &Items<'_, Atom>) -> Result<Vec<Value>, AllocError>
     ensures { IfOk result (λ v. map view v.items ≡ map notation.write_atom (map atom_of atoms.now)) }
 {
     let mut items = Vec::with_capacity(alloc, atoms.len())?;
-    for atom in atoms {
+    for atom in atoms.iter() {
         items.push(write_atom(alloc, atom)?)?;
     }
     Ok(items)
 }
 
 /// Writes the set of the atoms, of which one stands alone.
-fn write_atoms(alloc: Global, atoms: &[Atom]) -> Result<Value, AllocError>
+fn write_atoms(alloc: Global, atoms: &Items<'_, Atom>) -> Result<Value, AllocError>
     ensures { IfOk result (λ v. view v ≡ notation.write_atoms (map atom_of atoms.now)) }
 {
-    match atoms {
-        [atom] => write_atom(alloc, atom),
-        _ => write_tagged(alloc, "set", Value::from(write_all(alloc, atoms)?)),
+    match atoms.lone() {
+        Some(atom) => write_atom(alloc, atom),
+        None => write_tagged(alloc, "set", Value::from(write_all(alloc, atoms)?)),
     }
 }
 
@@ -127,11 +128,11 @@ fn write_pair(alloc: Global, pair: &(Atom, Atom)) -> Result<Value, AllocError>
     Ok(Value::from(items))
 }
 
-fn write_pairs(alloc: Global, pairs: &[(Atom, Atom)]) -> Result<Vec<Value>, AllocError>
+fn write_pairs(alloc: Global, pairs: &Items<'_, (Atom, Atom)>) -> Result<Vec<Value>, AllocError>
     ensures { IfOk result (λ v. map view v.items ≡ map notation.write_pair (map pair_of pairs.now)) }
 {
     let mut items = Vec::with_capacity(alloc, pairs.len())?;
-    for pair in pairs {
+    for pair in pairs.iter() {
         items.push(write_pair(alloc, pair)?)?;
     }
     Ok(items)
@@ -144,7 +145,7 @@ pub fn write_value(alloc: Global, value: &odb_atoms::Value) -> Result<Value, All
     ensures { IfOk result (λ v. view v ≡ notation.write_value value.now) }
 {
     match value.entries() {
-        Entries::Set(atoms) => write_atoms(alloc, atoms),
-        Entries::Map(pairs) => write_tagged(alloc, "map", Value::from(write_pairs(alloc, pairs)?)),
+        Entries::Set(atoms) => write_atoms(alloc, &atoms),
+        Entries::Map(pairs) => write_tagged(alloc, "map", Value::from(write_pairs(alloc, &pairs)?)),
     }
 }

@@ -43,6 +43,6 @@ named c tag u r own h =
     let has = sym (contains-from_list atom_cmp_total (uuid u ∷ []) (uuid tag)) ∙ subst (λ s. mentions tag (cell u r s) ≡ true) own h in
     ⊎_elim (λ e. same_Some u tag (ap identifier_in (sym (same_key atom_cmp-IsAntisymmetric (uuid tag) (uuid u) e)))) (λ e. absurd (true≢false (sym e))) (either (eq_by_cmp atom_cmp (uuid tag) (uuid u)) false has)
 
-pub set-listed : (elements : Bor (List code.Atom)) (v : Value) → shown.Lists (entries.Set elements) v → is_map v ≡ false
+pub set-listed : (elements : List code.Atom) (v : Value) → shown.Lists (entries.Set elements) v → is_map v ≡ false
 set-listed elements (set_of s) listed = λ i. false
 set-listed elements (map_of m) listed = absurd listed

@@ -1,5 +1,5 @@
 -- The tags of rows: where two rows have the same, and what tells them.
-use Rattle.std.proofs.Common.{◌≡◌, ◌||◌, ℕ, true, false, not, List, [], ◌∷◌, map, slice_get, unwrap_or, Global, Vec, IfSome, Option, Some, None, refl, sym, ap, subst, ◌∙◌, Bor}
+use Rattle.std.proofs.Common.{◌≡◌, ◌||◌, ℕ, true, false, not, List, [], ◌∷◌, map, slice_get, unwrap_or, Global, Vec, IfSome, Option, Some, None, refl, sym, ap, subst, ◌∙◌}
 use Rattle.std.proofs.lemmas.Option.{none-some, same_Some}
 use Rattle.std.specs.Cmp.{unsigned_Decides}
 use Rattle.std.specs.List.{list_all, list_any}
@@ -61,9 +61,9 @@ twin-cells places u v r s e = same_values-equal (cells_at places r) (cells_at pl
 
 -- ---- the first that a set mentions
 
-pub first-mentioned : (u : Uuid) (first : code.Atom) (elements : Bor (List code.Atom)) (v : Value) → shown.Lists (entries.Set elements) v → slice_get elements.now 0 ≡ Some first → identifier_in (atom_of first) ≡ Some u → mentions u v ≡ true
+pub first-mentioned : (u : Uuid) (first : code.Atom) (elements : List code.Atom) (v : Value) → shown.Lists (entries.Set elements) v → slice_get elements 0 ≡ Some first → identifier_in (atom_of first) ≡ Some u → mentions u v ≡ true
 first-mentioned u first elements (map_of m) listed at is = absurd listed
-first-mentioned u first elements (set_of s) listed at is = contains_key-keys s (uuid u) ∙ ap (list_any (same_atom (uuid u))) (sym listed) ∙ by elements.now at
+first-mentioned u first elements (set_of s) listed at is = contains_key-keys s (uuid u) ∙ ap (list_any (same_atom (uuid u))) (sym listed) ∙ by elements at
   where
     the_atom : (a : Atom) → identifier_in a ≡ Some u → same_atom (uuid u) a ≡ true
     the_atom (integer z) e = absurd (none-some u e)

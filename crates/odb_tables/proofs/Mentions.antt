@@ -1,5 +1,5 @@
 -- What the entries of values mention: one by one, and of a whole value.
-use Rattle.std.proofs.Common.{◌≡◌, ◌⊎◌, true, List, Option, Some, sym, ap, ◌∙◌, Bor}
+use Rattle.std.proofs.Common.{◌≡◌, ◌⊎◌, true, List, Option, Some, sym, ap, ◌∙◌}
 use mathlib.Core.Logic.{inl, inr}
 use Rattle.std.specs.List.{list_any}
 use Rattle.odb_atoms.specs.Atom.{Atom, same_atom, uuid}
@@ -37,13 +37,13 @@ pair-tags tag p o s first second e = elim (either (same_atom (atom_of p.0) (uuid
 
 -- ---- a value
 
-pub elements-mention : (tag : Uuid) (elements : Bor (List code.Atom)) (v : Value) → shown.Lists (entries.Set elements) v → list_any (element_mentions tag) elements.now ≡ mentions tag v
-elements-mention tag elements (set_of s) listed = sym (any-map (same_atom (uuid tag)) atom_of elements.now) ∙ ap (list_any (same_atom (uuid tag))) listed ∙ sym (contains_key-keys s (uuid tag))
+pub elements-mention : (tag : Uuid) (elements : List code.Atom) (v : Value) → shown.Lists (entries.Set elements) v → list_any (element_mentions tag) elements ≡ mentions tag v
+elements-mention tag elements (set_of s) listed = sym (any-map (same_atom (uuid tag)) atom_of elements) ∙ ap (list_any (same_atom (uuid tag))) listed ∙ sym (contains_key-keys s (uuid tag))
 elements-mention tag elements (map_of m) listed = absurd listed
 
-pub pairs-mention : (tag : Uuid) (pairs : Bor (List (code.Atom × code.Atom))) (v : Value) → shown.Lists (entries.Map pairs) v → list_any (pair_mentions tag) pairs.now ≡ mentions tag v
+pub pairs-mention : (tag : Uuid) (pairs : List (code.Atom × code.Atom)) (v : Value) → shown.Lists (entries.Map pairs) v → list_any (pair_mentions tag) pairs ≡ mentions tag v
 pairs-mention tag pairs (set_of s) listed = absurd listed
-pairs-mention tag pairs (map_of m) listed = sym (any-map (is_in (uuid tag)) pair_of pairs.now) ∙ ap (list_any (is_in (uuid tag))) listed
+pairs-mention tag pairs (map_of m) listed = sym (any-map (is_in (uuid tag)) pair_of pairs) ∙ ap (list_any (is_in (uuid tag))) listed
 
 -- each of two moves on
 pub onward : {A B C D : Type 0} → (A → C) → (B → D) → A ⊎ B → C ⊎ D

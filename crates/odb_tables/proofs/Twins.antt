@@ -99,6 +99,6 @@ mentions_now f v (Some r) = refl
 pub mentions-nothing : (u : Uuid) → mentions u nothing_in ≡ false
 mentions-nothing u = ap is_some (get-empty atom_cmp (uuid u))
 
-pub mentioned_in_pairs : (u : Uuid) (pairs : Bor (List (code.Atom × code.Atom))) (v : Value) → shown.Lists (entries.Map pairs) v → list_any (λ pair. is_in (uuid u) (pair_of pair)) pairs.now ≡ mentions u v
+pub mentioned_in_pairs : (u : Uuid) (pairs : List (code.Atom × code.Atom)) (v : Value) → shown.Lists (entries.Map pairs) v → list_any (λ pair. is_in (uuid u) (pair_of pair)) pairs ≡ mentions u v
 mentioned_in_pairs u pairs (set_of s) listed = absurd listed
-mentioned_in_pairs u pairs (map_of m) listed = sym (any-map (is_in (uuid u)) pair_of pairs.now) ∙ ap (list_any (is_in (uuid u))) listed
+mentioned_in_pairs u pairs (map_of m) listed = sym (any-map (is_in (uuid u)) pair_of pairs) ∙ ap (list_any (is_in (uuid u))) listed

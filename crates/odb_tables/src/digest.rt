@@ -13,6 +13,7 @@ ghost use Rattle.odb_tables.specs.Represented.Digest as spec;
 use crate::key::Key;
 use crate::row_test::required;
 use odb_atoms::{Atom, Entries, Row, Value};
+use odb_chunks::Items;
 use odb_cond::{Clause, Where};
 use std::hash::{BuildHasher, DefaultHasher, Hash, Hasher, RandomState};
 
@@ -79,23 +80,23 @@ pub fn feed_value(state: &mut DefaultHasher, value: &Value)
     ensures { state.new ≡ spec.after_value state.old value.now }
 {
     match value.entries() {
-        Entries::Set(elements) => feed_elements(state, elements),
-        Entries::Map(pairs) => feed_pairs(state, pairs),
+        Entries::Set(elements) => feed_elements(state, &elements),
+        Entries::Map(pairs) => feed_pairs(state, &pairs),
     }
 }
 
-fn feed_elements(state: &mut DefaultHasher, elements: &[Atom])
+fn feed_elements(state: &mut DefaultHasher, elements: &Items<'_, Atom>)
     ensures { state.new ≡ spec.after_atoms state.old (map atom_of elements.now) }
 {
-    for element in elements {
+    for element in elements.iter() {
         feed_atom(state, element);
     }
 }
 
-fn feed_pairs(state: &mut DefaultHasher, pairs: &[(Atom, Atom)])
+fn feed_pairs(state: &mut DefaultHasher, pairs: &Items<'_, (Atom, Atom)>)
     ensures { state.new ≡ spec.after_pairs state.old (map pair_of pairs.now) }
 {
-    for pair in pairs {
+    for pair in pairs.iter() {
         feed_atom(state, &pair.0);
         feed_atom(state, &pair.1);
     }

@@ -10,6 +10,7 @@ ghost use Rattle.odb_tables.specs.Represented.Facet.{identifier_in};
 
 use crate::key::Key;
 use odb_atoms::{Atom, Entries, Value};
+use odb_chunks::Items;
 use std::cmp::Ordering;
 
 /// An entry of a value: an element of a set, or a pair of a map. Those of one value ascend, each of them once.
@@ -61,74 +62,73 @@ pub(crate) fn key_of(atom: &Atom) -> Option<Key>
 }
 
 /// Returns the elements, if the value is there and a set; else none. O(1).
-pub(crate) fn elements_of(value: Option<&Value>) -> &[Atom]
-    ensures { (tag : model_uuid.Uuid) → list_any (element_mentions tag) result.now ≡ true
+pub(crate) fn elements_of(value: Option<&Value>) -> Items<'_, Atom>
+    ensures { (tag : model_uuid.Uuid) → list_any (element_mentions tag) result ≡ true
         → mentions_now tag (option_copied value.entry) ≡ true }
 {
     let Some(value) = value else {
-        return &[];
+        return Items::of(&[]);
     };
     match value.entries() {
         Entries::Set(elements) => elements,
-        Entries::Map(_) => &[],
+        Entries::Map(_) => Items::of(&[]),
     }
 }
 
 /// Returns the pairs, if the value is there and a map; else none. O(1).
-pub(crate) fn pairs_of(value: Option<&Value>) -> &[(Atom, Atom)]
-    ensures { (tag : model_uuid.Uuid) → list_any (pair_mentions tag) result.now ≡ true
+pub(crate) fn pairs_of(value: Option<&Value>) -> Items<'_, (Atom, Atom)>
+    ensures { (tag : model_uuid.Uuid) → list_any (pair_mentions tag) result ≡ true
         → mentions_now tag (option_copied value.entry) ≡ true }
 {
     let Some(value) = value else {
-        return &[];
+        return Items::of(&[]);
     };
     match value.entries() {
-        Entries::Set(_) => &[],
+        Entries::Set(_) => Items::of(&[]),
         Entries::Map(pairs) => pairs,
     }
 }
 
-/// Passes over the entries at the front that both have. Returns those that are left of each. O(those passed over).
+/// Passes over the entries at the front that both have. O(those passed over).
 #[inline(always)]
-pub(crate) fn pass_common<'a, E: Entry>(old: &'a [E], new: &'a [E]) -> (&'a [E], &'a [E])
-    ensures left { (tag : model_uuid.Uuid) → list_any (E.mentions tag) result.0.now ≡ true
-        → list_any (E.mentions tag) old.now ≡ true }
-    ensures common { (tag : model_uuid.Uuid) → list_any (E.mentions tag) new.now ≡ true
-        → (list_any (E.mentions tag) old.now ≡ true) ⊎ (list_any (E.mentions tag) result.1.now ≡ true) }
-    ensures fewer_old { length result.0.now ≤ length old.now }
-    ensures fewer_new { length result.1.now ≤ length new.now }
+pub(crate) fn pass_common<E: Entry + Drop>(old: &mut Items<'_, E>, new: &mut Items<'_, E>)
+    ensures left { (tag : model_uuid.Uuid) → list_any (E.mentions tag) old.new ≡ true
+        → list_any (E.mentions tag) old.old ≡ true }
+    ensures common { (tag : model_uuid.Uuid) → list_any (E.mentions tag) new.old ≡ true
+        → (list_any (E.mentions tag) old.old ≡ true) ⊎ (list_any (E.mentions tag) new.new ≡ true) }
+    ensures fewer_old { length old.new ≤ length old.old }
+    ensures fewer_new { length new.new ≤ length new.old }
 {
-    let mut old_left = old;
-    let mut new_left = new;
-    while let [first, rest @ ..] = old_left {
-        let [next, later @ ..] = new_left else {
-            return (old_left, new_left);
+    while let Some(first) = old.first() {
+        let Some(next) = new.first() else {
+            return;
         };
         if first.cmp(next) != Ordering::Equal {
-            return (old_left, new_left);
+            return;
         }
-        old_left = rest;
-        new_left = later;
+        old.pass(1);
+        new.pass(1);
     }
-    (old_left, new_left)
 }
 
-/// Passes over the ascending entries that are less than this one, and over the one that is equal. Returns those that
-/// are left, and whether one was equal. O(those passed over).
+/// Passes over the ascending entries that are less than this one, and over the one that is equal. Returns whether one was
+/// equal. O(those passed over).
 #[inline(always)]
-pub(crate) fn pass_over<'a, E: Entry>(entries: &'a [E], entry: &E) -> (&'a [E], bool)
-    ensures left { (tag : model_uuid.Uuid) → list_any (E.mentions tag) result.0.now ≡ true
-        → list_any (E.mentions tag) entries.now ≡ true }
-    ensures equal { IsTrue result.1 → (tag : model_uuid.Uuid) → E.mentions tag entry.now ≡ true
-        → list_any (E.mentions tag) entries.now ≡ true }
+pub(crate) fn pass_over<E: Entry + Drop>(entries: &mut Items<'_, E>, entry: &E) -> bool
+    ensures left { (tag : model_uuid.Uuid) → list_any (E.mentions tag) entries.new ≡ true
+        → list_any (E.mentions tag) entries.old ≡ true }
+    ensures equal { IsTrue result → (tag : model_uuid.Uuid) → E.mentions tag entry.now ≡ true
+        → list_any (E.mentions tag) entries.old ≡ true }
 {
-    let mut left = entries;
-    while let [first, rest @ ..] = left {
+    while let Some(first) = entries.first() {
         match first.cmp(entry) {
-            Ordering::Less => left = rest,
-            Ordering::Equal => return (rest, true),
-            Ordering::Greater => return (left, false),
+            Ordering::Less => entries.pass(1),
+            Ordering::Equal => {
+                entries.pass(1);
+                return true;
+            }
+            Ordering::Greater => return false,
         }
     }
-    (left, false)
+    false
 }

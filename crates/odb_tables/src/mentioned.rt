@@ -12,6 +12,7 @@ use crate::key::Key;
 use crate::pairs;
 use crate::went::Went;
 use odb_atoms::{Entries, Value};
+use odb_chunks::Items;
 use std::alloc::AllocError;
 use std::cmp::Ordering;
 use std::collections::BTreeSet;
@@ -31,67 +32,68 @@ pub(crate) fn add_gained(
         → (mentions_now tag (option_copied before.entry) ≡ true) ⊎ (has pairs.new tag key ≡ true)) }
 {
     match value.entries() {
-        Entries::Set(elements) => add_entries(pairs, went, key, elements_of(before), elements),
-        Entries::Map(entries) => add_entries(pairs, went, key, pairs_of(before), entries),
+        Entries::Set(elements) => add_entries(pairs, went, key, &elements_of(before), &elements),
+        Entries::Map(entries) => add_entries(pairs, went, key, &pairs_of(before), &entries),
     }
 }
 
 /// Adds the key under what the entries mention, but for those that stand among the ones before, too, and lists what
 /// those mention that stand among the ones before alone. One pass over both.
-fn add_entries<E: Entry>(
+fn add_entries<E: Entry + Drop>(
     pairs: &mut BTreeSet<(Key, Key)>,
     went: &mut Went,
     key: Key,
-    before: &[E],
-    entries: &[E],
+    before: &Items<'_, E>,
+    entries: &Items<'_, E>,
 ) -> Result<(), AllocError>
     ensures grows { Grows pairs.old pairs.new }
     ensures ok { OnOk result ((tag : model_uuid.Uuid) → list_any (E.mentions tag) entries.now ≡ true
         → (list_any (E.mentions tag) before.now ≡ true) ⊎ (has pairs.new tag key ≡ true)) }
 {
-    let (mut old_left, mut new_left) = pass_common(before, entries);
-    while let [next, later @ ..] = new_left {
-        let [first, rest @ ..] = old_left else {
-            return add_each(pairs, key, new_left);
+    let mut old_left = before.iter();
+    let mut new_left = entries.iter();
+    while let Some(next) = new_left.first() {
+        let Some(first) = old_left.first() else {
+            return add_each(pairs, key, &new_left);
         };
         match first.cmp(next) {
             Ordering::Less => {
                 push_entry(went, first)?;
-                old_left = rest;
+                old_left.pass(1);
             }
             Ordering::Greater => {
                 add_entry(pairs, key, next)?;
-                new_left = later;
+                new_left.pass(1);
             }
             Ordering::Equal => {
-                let (old_rest, new_rest) = pass_common(rest, later);
-                old_left = old_rest;
-                new_left = new_rest;
+                old_left.pass(1);
+                new_left.pass(1);
+                pass_common(&mut old_left, &mut new_left);
             }
         }
     }
-    push_each(went, old_left)
+    push_each(went, &old_left)
 }
 
 /// Adds the key under what each of the entries mentions.
-fn add_each<E: Entry>(
+fn add_each<E: Entry + Drop>(
     pairs: &mut BTreeSet<(Key, Key)>,
     key: Key,
-    entries: &[E],
+    entries: &Items<'_, E>,
 ) -> Result<(), AllocError>
     ensures grows { Grows pairs.old pairs.new }
     ensures ok { OnOk result ((tag : model_uuid.Uuid) → list_any (E.mentions tag) entries.now ≡ true
         → has pairs.new tag key ≡ true) }
 {
-    for entry in entries {
+    for entry in entries.iter() {
         add_entry(pairs, key, entry)?;
     }
     Ok(())
 }
 
 /// Appends what each of the entries mentions.
-fn push_each<E: Entry>(went: &mut Went, entries: &[E]) -> Result<(), AllocError> {
-    for entry in entries {
+fn push_each<E: Entry + Drop>(went: &mut Went, entries: &Items<'_, E>) -> Result<(), AllocError> {
+    for entry in entries.iter() {
         push_entry(went, entry)?;
     }
     Ok(())

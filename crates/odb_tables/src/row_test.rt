@@ -22,6 +22,7 @@ use crate::entry::key_of;
 use crate::facet::Facet;
 use crate::key::Key;
 use odb_atoms::{Atom, Entries, Row, Value};
+use odb_chunks::Items;
 use odb_cond::{Clause, Filter, Function, Selector, Where};
 use uuid::Uuid;
 
@@ -185,12 +186,12 @@ fn mentions(value: &Value, uuid: Uuid) -> bool
     let atom = Atom::Uuid(uuid);
     match value.entries() {
         Entries::Set(_) => value.contains(&atom),
-        Entries::Map(pairs) => is_in_pairs(pairs, &atom),
+        Entries::Map(pairs) => is_in_pairs(&pairs, &atom),
     }
 }
 
 /// Returns whether the atom is a key or a value of one of the pairs.
-fn is_in_pairs(pairs: &[(Atom, Atom)], atom: &Atom) -> bool
+fn is_in_pairs(pairs: &Items<'_, (Atom, Atom)>, atom: &Atom) -> bool
     ensures { result ≡ list_any (λ pair. is_in (atom_of atom.now) (pair_of pair)) pairs.now }
 {
     pairs.iter().any(|pair| pair.0 == *atom || pair.1 == *atom)

@@ -7,6 +7,7 @@ use crate::facet::Facet;
 use crate::key::Key;
 use crate::pairs;
 use odb_atoms::{Entries, Row, Value};
+use odb_chunks::Items;
 use std::collections::BTreeSet;
 
 /// What stays of a row, so that it is still found by its facet.
@@ -33,20 +34,23 @@ impl Staying<'_> {
         ensures { Cuts self.now.facet.now pairs.old pairs.new self.now.key (option_copied self.now.row) }
     {
         match lost.entries() {
-            Entries::Set(elements) => self.cut_entries(pairs, elements, elements_of(stays)),
-            Entries::Map(entries) => self.cut_entries(pairs, entries, pairs_of(stays)),
+            Entries::Set(elements) => self.cut_entries(pairs, &elements, &elements_of(stays)),
+            Entries::Map(entries) => self.cut_entries(pairs, &entries, &pairs_of(stays)),
         }
     }
 
     /// Takes out the pairs of what the entries mention, but for those that stay, too. One pass over both.
-    fn cut_entries<E: Entry>(&self, pairs: &mut BTreeSet<(Key, Key)>, lost: &[E], stays: &[E])
+    fn cut_entries<E: Entry + Drop>(
+        &self,
+        pairs: &mut BTreeSet<(Key, Key)>,
+        lost: &Items<'_, E>,
+        stays: &Items<'_, E>,
+    )
         ensures { Cuts self.now.facet.now pairs.old pairs.new self.now.key (option_copied self.now.row) }
     {
-        let mut left = stays;
-        for entry in lost {
-            let (rest, is_shared) = pass_over(left, entry);
-            left = rest;
-            if is_shared {
+        let mut left = stays.iter();
+        for entry in lost.iter() {
+            if pass_over(&mut left, entry) {
                 continue;
             }
             self.cut_entry(pairs, entry);

@@ -170,11 +170,6 @@ map_in-same xs ys is = ap (λ es. map_of (finite.from_sorted es)) (same_pairs xs
 
 -- ---- one element
 
-pub only : (xs : List Atom) (x : Atom) → 1 ≤ length xs → length xs < 2 → x ≡ get_or xs 0 x → xs ≡ x ∷ []
-only [] x long short is = absurd (omega arith)
-only (y ∷ []) x long short is = ap (λ z. z ∷ []) (sym is)
-only (y ∷ z ∷ zs) x long short is = absurd (omega arith)
-
 pub only_last : (xs ys : List Atom) (x : Atom) → xs ≡ ys ++ x ∷ [] → length xs ≡ 1 → xs ≡ x ∷ []
 only_last xs [] x is one = is
 only_last xs (y ∷ []) x is one = absurd (omega (arith, ap length is))

@@ -1,12 +1,12 @@
 -- The order of values: it goes by their entries, and ties equal values alone.
-use Rattle.std.specs.Prelude.{◌≡◌, true, cond, ◌&&◌, T, List, [], ◌∷◌, map, refl, Some}
+use Rattle.std.specs.Prelude.{◌≡◌, Bool, true, false, cond, ◌&&◌, T, List, [], ◌∷◌, map, refl, Some}
 use mathlib.Core.Path.{sym, ap, ◌∙◌}
 use mathlib.Core.Bool.{true≢false}
 use Rattle.std.proofs.Common.{inl, inr}
 use Rattle.std.specs.declared.cmp.Ordering.{Ordering}
 use Rattle.std.specs.declared.cmp.Ordering.TheVariants.{Less, Equal, Greater}
 use Rattle.std.specs.Cmp.{both_ways, tied_itself}
-use Rattle.std.specs.Cmp.Lexicographic.{slice_cmp}
+use Rattle.std.specs.Cmp.Lexicographic.{lists_ties, slice_cmp}
 use Rattle.std.specs.FinMap.{IsAntisymmetric, slice_cmp-IsAntisymmetric}
 use Rattle.std.specs.List.{list_all, list_any}
 use Rattle.std.specs.Ordering.{eq_by_cmp, is_eq, ordering_reverse, ordering_then}
@@ -103,3 +103,15 @@ eq_by_cmp-value_cmp v w =
     both_ways (eq_by_cmp value_cmp v w) (same_value v w)
     (λ e. ap (same_value v) (sym (tied v w (equal (value_cmp v w) e))) ∙ same_itself v)
     (λ e. ap (eq_by_cmp value_cmp v) (sym (same_value-equal v w e)) ∙ ap is_eq (tied_itself values_total v))
+
+-- ---- two sets of one atom each
+
+alone : (b : Bool) → b ≡ (b && true)
+alone true = refl
+alone false = refl
+
+pub one_ties : (a b : Atom) (v w : Value) → set_in (a ∷ []) ≡ v → set_in (b ∷ []) ≡ w → same_atom (atom_of a) (atom_of b) ≡ eq_by_cmp value_cmp v w
+one_ties a b v w is_v is_w =
+    alone (same_atom (atom_of a) (atom_of b))
+    ∙ lists_ties (λ x y. atom_cmp (atom_of x) (atom_of y)) (λ x y. refl) (a ∷ []) (b ∷ [])
+    ∙ ap is_eq (value_cmp-set_in (a ∷ []) (b ∷ []) v w tt tt is_v is_w)

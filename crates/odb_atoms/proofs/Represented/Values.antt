@@ -40,8 +40,8 @@ pub pairs-from_sorted : (xs : List (Atom × Atom)) → HaveAscendingKeys xs → 
 pairs-from_sorted xs h = entries-from_sorted atom_cmp (map pair_of xs) h
 
 pub listed : (e : Entries) (v : Value) → AreInOrder e → value_in e ≡ v → Lists e v
-listed (entries.Set s) v h is = subst (Lists (entries.Set s)) is (sym (items-from_sorted s.now h))
-listed (entries.Map s) v h is = subst (Lists (entries.Map s)) is (sym (pairs-from_sorted s.now h))
+listed (entries.Set s) v h is = subst (Lists (entries.Set s)) is (sym (items-from_sorted s h))
+listed (entries.Map s) v h is = subst (Lists (entries.Map s)) is (sym (pairs-from_sorted s h))
 
 pub size-set_in : (xs : List Atom) → AreAscending xs → size (set_in xs) ≡ length xs
 size-set_in xs h = len-from_sorted atom_cmp (map key_of xs) h ∙ length-map xs _

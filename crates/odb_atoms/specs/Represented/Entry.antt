@@ -1,6 +1,6 @@
 -- The entries of a value: the elements of a set, which have no value, and the pairs of a map.
-use Rattle.std.specs.Prelude.{◌≡◌, ◌≤◌, Bool, true, false, cond, T, List, ◌++◌, length, map, take, Option, Some, None}
-use Rattle.std.specs.FinMap.Entries.{find, is_sorted}
+use Rattle.std.specs.Prelude.{◌≡◌, ◌≤◌, Bool, true, false, cond, T, List, [], ◌∷◌, ◌++◌, length, map, take, Option, Some, None}
+use Rattle.std.specs.FinMap.Entries.{by_order, find, is_sorted}
 use Rattle.std.specs.List.{list_all}
 use Rattle.std.specs.Ordering.{is_lt}
 use Rattle.odb_atoms.specs.Atom.{Atom, atom_cmp, same_atom}
@@ -9,6 +9,11 @@ use Rattle.odb_atoms.specs.Atom.{Atom, atom_cmp, same_atom}
 abbrev pub Entry : Type 0
 Entry = Atom × Option Atom
 
+-- there is none, or the first one's key is greater than this one
+abbrev pub is_after : List Entry → Atom → Bool
+is_after [] k = true
+is_after (e ∷ es) k = is_lt (atom_cmp k e.0)
+
 -- the keys strictly rise
 abbrev pub IsRising : List Entry → Type 0
 IsRising es = T (is_sorted atom_cmp es)
@@ -16,6 +21,22 @@ IsRising es = T (is_sorted atom_cmp es)
 -- each key is less than this one
 abbrev pub AreBefore : List Entry → Atom → Type 0
 AreBefore es k = T (list_all (λ e. is_lt (atom_cmp e.0 k)) es)
+
+-- the keys of the first list are less than that of each of the second, which rises
+abbrev pub AreApart : List Entry → List Entry → Type 0
+AreApart xs [] = Unit {0}
+AreApart xs (y ∷ ys) = AreBefore xs y.0
+
+-- there is none, or the first one's key isn't less than this one
+abbrev pub IsFrom : List Entry → Atom → Type 0
+IsFrom [] k = Unit {0}
+IsFrom (e ∷ es) k = is_lt (atom_cmp e.0 k) ≡ false
+
+-- there is none, or the second list has one, and the first one's key isn't less than that one's
+abbrev pub AreFrom : List Entry → List Entry → Type 0
+AreFrom [] ys = Unit {0}
+AreFrom (x ∷ xs) [] = ⊥
+AreFrom (x ∷ xs) (y ∷ ys) = is_lt (atom_cmp x.0 y.0) ≡ false
 
 -- there is a first one, and its key is less than this one
 abbrev pub IsFirstBefore : List Entry → Atom → Type 0
@@ -59,3 +80,13 @@ IsChange old new change = (k : Atom) → entry_at change k ≡ changed_value (en
 
 abbrev pub keys_of : List Entry → List Atom
 keys_of = map (λ e. e.0)
+
+-- an entry and those after it, against a second list; `rest` says what becomes of those after it
+abbrev pub against : Entry → List Entry → (List Entry → List Entry) → List Entry → List Entry
+against x xs rest [] = x ∷ xs
+against x xs rest (y ∷ ys) = by_order (atom_cmp x.0 y.0) (x ∷ rest (y ∷ ys)) (cond (alike x.1 y.1) (rest ys) (y ∷ rest ys)) (y ∷ against x xs rest ys)
+
+-- the entries by which two rising lists differ, in their order
+abbrev pub merged : List Entry → List Entry → List Entry
+merged [] ys = ys
+merged (x ∷ xs) ys = against x xs (merged xs) ys

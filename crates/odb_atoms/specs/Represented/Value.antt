@@ -11,7 +11,7 @@ use Rattle.odb_atoms.specs.FinMap as finite
 use Rattle.odb_atoms.specs.Represented.Atom.{atom_of}
 use Rattle.odb_atoms.specs.declared.atom.Atom.{Atom}
 use Rattle.odb_atoms.specs.declared.value.Content.{Content}
-use Rattle.odb_atoms.specs.declared.value.Content.TheVariants.{One, Set, Map, SharedSet, SharedMap}
+use Rattle.odb_atoms.specs.declared.value.Content.TheVariants.{One, Set, Map, SharedSet, SharedMap, ChunkedSet, ChunkedMap}
 use Rattle.odb_atoms.specs.declared.value.Entries.{Entries}
 use Rattle.odb_atoms.specs.declared.value.Entries.TheVariants as entries
 use Rattle.odb_atoms.specs.declared.value.Value.TheInside.{Inside}
@@ -50,6 +50,8 @@ content_of (Set v) = set_in v.items
 content_of (Map v) = map_in v.items
 content_of (SharedSet v) = set_in (arc_value v).items
 content_of (SharedMap v) = map_in (arc_value v).items
+content_of (ChunkedSet v) = set_in (arc_value v)
+content_of (ChunkedMap v) = map_in (arc_value v)
 
 abbrev pub ascends : Content → Type 0
 ascends (One a) = AreAscending (a ∷ [])
@@ -57,6 +59,8 @@ ascends (Set v) = AreAscending v.items
 ascends (Map v) = HaveAscendingKeys v.items
 ascends (SharedSet v) = AreAscending (arc_value v).items
 ascends (SharedMap v) = HaveAscendingKeys (arc_value v).items
+ascends (ChunkedSet v) = AreAscending (arc_value v)
+ascends (ChunkedMap v) = HaveAscendingKeys (arc_value v)
 
 abbrev pub value_of : Inside → Value
 value_of a = content_of a.content
@@ -65,16 +69,24 @@ abbrev pub IsAscending : Inside → Type 0
 IsAscending a = ascends a.content
 
 abbrev pub value_in : Entries → Value
-value_in (entries.Set s) = set_in s.now
-value_in (entries.Map s) = map_in s.now
+value_in (entries.Set s) = set_in s
+value_in (entries.Map s) = map_in s
 
 abbrev pub AreInOrder : Entries → Type 0
-AreInOrder (entries.Set s) = AreAscending s.now
-AreInOrder (entries.Map s) = HaveAscendingKeys s.now
+AreInOrder (entries.Set s) = AreAscending s
+AreInOrder (entries.Map s) = HaveAscendingKeys s
 
 -- the entries are those of the value, one by one in ascending order
 abbrev pub Lists : Entries → Value → Type 0
-Lists (entries.Set s) (set_of elements) = map atom_of s.now ≡ set.items elements
-Lists (entries.Map s) (map_of pairs) = map pair_of s.now ≡ pairs.entries
+Lists (entries.Set s) (set_of elements) = map atom_of s ≡ set.items elements
+Lists (entries.Map s) (map_of pairs) = map pair_of s ≡ pairs.entries
 Lists (entries.Set s) (map_of pairs) = ⊥
 Lists (entries.Map s) (set_of elements) = ⊥
+
+-- the elements in the chunks are those of the set, in order
+abbrev pub HasElements : List Atom → Value → Type 0
+HasElements elements v = (set_in elements ≡ v) × AreAscending elements
+
+-- the pairs in the chunks are those of the map, in the order of their keys
+abbrev pub HasPairs : List (Atom × Atom) → Value → Type 0
+HasPairs pairs v = (map_in pairs ≡ v) × HaveAscendingKeys pairs

@@ -1,22 +1,19 @@
-use mathlib.Core.Path.{sym, ap, ◌∙◌}
-use Rattle.std.proofs.Common.{rules, Some}
-use Rattle.std.proofs.lemmas.Fn.{always_returns_same}
-use Rattle.odb_atoms.specs.Atom.{atom_cmp}
+use mathlib.Core.Path.{sym, ◌∙◌}
 use Rattle.odb_atoms.specs.Represented.Atom.{atom_of}
-use Rattle.odb_atoms.specs.Represented.AtomOrder.{atom_cmp_total}
-use Rattle.odb_atoms.proofs.Rising.{find-missed, find-tied, searchable}
+use Rattle.odb_atoms.proofs.Chunks.{found_in_slice, found_later, rising_later, rising_slice}
+use Rattle.odb_chunks.specs.Represented.Chunks.{items_in}
 use Rattle.odb_atoms.proofs.entry.find.Goals as goal
 
-pub returns-in-Ok : goal.returns-in-Ok
-returns-in-Ok g c =
-    let entry = g.E.Entry.entry in
-    let tied = c.in-Ok.ensures.position (λ e. atom_cmp (entry e).0 (atom_of c.args.key.now)) (always_returns_same _ _ _ (λ a r f' k. search rules)) in
-    let found = find-tied atom_cmp_total entry _ _ c.in-Ok.place c.index-entries-place.result c.requires c.in-Ok.ensures.bound (tied c.index-entries-place.result) in
-    ap (λ e. Some (entry e).1) c.index-entries-place.is ∙ sym found
+pub find_in-requires : goal.find_in-requires
+find_in-requires g c = rising_slice g.E.Entry.entry c.args.entries.now c.parts.result.0.now (items_in c.parts.result.1.now) c.parts.ensures.items c.requires
 
-pub returns-in-Err : goal.returns-in-Err
-returns-in-Err g c =
-    let entry = g.E.Entry.entry in
-    let key = atom_of c.args.key.now in
-    let missed = c.in-Err.ensures.position (λ e. atom_cmp (entry e).0 key) (always_returns_same _ _ _ (λ a r f' k. search rules)) (searchable atom_cmp_total entry key _ c.requires) in
-    sym (find-missed atom_cmp_total entry key _ _ missed)
+pub returns-then-starts_after : goal.returns-then-starts_after
+returns-then-starts_after g c =
+    c.find_in.ensures ∙ found_in_slice g.E.Entry.entry c.args.entries.now c.parts.result.0.now (items_in c.parts.result.1.now) c.parts.ensures.items c.requires (atom_of c.args.key.now) (sym c.if-starts_after.true ∙ c.starts_after.ensures)
+
+pub find_in_chunks-requires-clause-rising : goal.find_in_chunks-requires-clause-rising
+find_in_chunks-requires-clause-rising g c = rising_later g.E.Entry.entry c.args.entries.now c.parts.result.0.now (items_in c.parts.result.1.now) c.parts.ensures.items c.requires
+
+pub returns : goal.returns
+returns g c =
+    c.find_in_chunks.ensures ∙ found_later g.E.Entry.entry c.args.entries.now c.parts.result.0.now (items_in c.parts.result.1.now) c.parts.ensures.items c.requires (atom_of c.args.key.now) (sym c.if-starts_after.false ∙ c.starts_after.ensures)

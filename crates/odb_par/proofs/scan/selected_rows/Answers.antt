@@ -6,7 +6,11 @@ use Rattle.rayon.specs.Lists.{iter_slice}
 use Rattle.rayon.proofs.ListFacts.{IfOk-then}
 use Rattle.rayon.proofs.ToStd.{answers-by_ref, filter-map, filter_by_mask-filter}
 use Rattle.odb_tables.specs.Represented.Table.{listed}
+use Rattle.odb_par.proofs.Crossing.{rows_cross}
 use Rattle.odb_par.proofs.scan.selected_rows.Goals as goal
+
+pub copied-requires : goal.copied-requires
+copied-requires g c κs = search rows_cross depth 20
 
 pub returns : goal.returns
 returns g c =

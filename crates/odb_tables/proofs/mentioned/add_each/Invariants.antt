@@ -1,4 +1,4 @@
-use Rattle.std.proofs.Common.{◌≡◌, ◌⊎◌, true, drop}
+use Rattle.std.proofs.Common.{◌≡◌, ◌⊎◌, true}
 use Rattle.std.specs.List.{list_any}
 use Rattle.odb_atoms.specs.Uuid.{Uuid}
 use Rattle.odb_tables.specs.Represented.Pairs.{Grows, has}
@@ -9,5 +9,5 @@ invariant-loop-entry g l =
     let mentions = g.E.Entry.mentions in
     record {
       grows : Grows l.initial.pairs l.pairs;
-      rest : (tag : Uuid) → list_any (mentions tag) l.entries ≡ true → (has l.pairs tag l.key ≡ true) ⊎ (list_any (mentions tag) (drop l.entry-index l.entries) ≡ true);
+      rest : (tag : Uuid) → list_any (mentions tag) l.entries ≡ true → (has l.pairs tag l.key ≡ true) ⊎ (list_any (mentions tag) l.entry-iterator ≡ true);
     }

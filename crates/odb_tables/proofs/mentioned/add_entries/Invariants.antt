@@ -4,8 +4,8 @@ use Rattle.odb_atoms.specs.Uuid.{Uuid}
 use Rattle.odb_tables.specs.Represented.Pairs.{Grows, has}
 use Rattle.odb_tables.proofs.mentioned.add_entries.Given as goal
 
-abbrev pub invariant-loop-new_left : goal.invariant-loop-new_left
-invariant-loop-new_left g l =
+abbrev pub invariant-loop-next : goal.invariant-loop-next
+invariant-loop-next g l =
     let mentions = g.E.Entry.mentions in
     record {
       grows : Grows l.initial.pairs l.pairs;
@@ -13,5 +13,5 @@ invariant-loop-new_left g l =
       rest : (tag : Uuid) → list_any (mentions tag) l.entries ≡ true → ((list_any (mentions tag) l.before ≡ true) ⊎ (has l.pairs tag l.key ≡ true)) ⊎ (list_any (mentions tag) l.new_left ≡ true);
     }
 
-abbrev pub decreases-loop-new_left : goal.decreases-loop-new_left
-decreases-loop-new_left g l = length l.old_left + length l.new_left
+abbrev pub decreases-loop-next : goal.decreases-loop-next
+decreases-loop-next g l = length l.old_left + length l.new_left

@@ -1,40 +1,15 @@
-use mathlib.Core.Path.{refl, ap, ◌∙◌}
-use Rattle.std.specs.Ordering.{is_eq}
-use Rattle.std.specs.Cmp.{both_tied}
-use Rattle.std.specs.Cmp.Lexicographic.{lists_ties}
-use Rattle.odb_atoms.specs.Atom.{atom_cmp}
-use Rattle.odb_atoms.specs.Members.{pair_cmp}
-use Rattle.odb_atoms.specs.Represented.Atom.{atom_of}
-use Rattle.odb_atoms.specs.Represented.Value.{pair_of}
-use Rattle.odb_atoms.proofs.Represented.Orders.{eq_by_cmp-value_cmp, value_cmp-map_in, value_cmp-set_in}
+use mathlib.Core.Path.{sym, ap, ◌∙◌}
+use Rattle.odb_atoms.specs.Represented.Value.{content_of}
+use Rattle.odb_atoms.proofs.Represented.Orders.{eq_by_cmp-value_cmp, one_ties}
 use Rattle.odb_atoms.proofs.value.ValuePartialEq.eq.Goals as goal
 
-pub returns-in-Set-Set-clause-value : goal.returns-in-Set-Set-clause-value
-returns-in-Set-Set-clause-value c =
-    let here = c.in-Set-Set in
-    c.eq.ensures
-    ∙ lists_ties (λ a b. atom_cmp (atom_of a) (atom_of b)) (λ x y. refl) here.left.now here.right.now
-    ∙ ap is_eq (value_cmp-set_in here.left.now here.right.now _ _ here.ensures.in_order here.ensures'.in_order here.ensures.value here.ensures'.value)
+pub returns-in-One-One-clause-value : goal.returns-in-One-One-clause-value
+returns-in-One-One-clause-value c =
+    let here = c.in-One-One in
+    c.eq.ensures ∙ one_ties here.left here.right _ _ (ap content_of (sym here.is-0) ∙ c.self.view_is) (ap content_of (sym here.is-1) ∙ c.other.view_is)
 
-pub returns-in-Set-Set-clause-same : goal.returns-in-Set-Set-clause-same
-returns-in-Set-Set-clause-same c =
-    let here = c.in-Set-Set in
-    c.eq.ensures
-    ∙ lists_ties (λ a b. atom_cmp (atom_of a) (atom_of b)) (λ x y. refl) here.left.now here.right.now
-    ∙ ap is_eq (value_cmp-set_in here.left.now here.right.now _ _ here.ensures.in_order here.ensures'.in_order here.ensures.value here.ensures'.value)
-    ∙ eq_by_cmp-value_cmp c.args.self.now c.args.other.now
-
-pub returns-in-Map-Map-clause-value : goal.returns-in-Map-Map-clause-value
-returns-in-Map-Map-clause-value c =
-    let here = c.in-Map-Map in
-    c.eq-in-Map-Map.ensures
-    ∙ lists_ties (λ p q. pair_cmp (pair_of p) (pair_of q)) (λ x y. both_tied _ _ (atom_cmp (atom_of x.0) (atom_of y.0)) (atom_cmp (atom_of x.1) (atom_of y.1)) refl refl) here.left.now here.right.now
-    ∙ ap is_eq (value_cmp-map_in here.left.now here.right.now _ _ here.ensures.in_order here.ensures'.in_order here.ensures.value here.ensures'.value)
-
-pub returns-in-Map-Map-clause-same : goal.returns-in-Map-Map-clause-same
-returns-in-Map-Map-clause-same c =
-    let here = c.in-Map-Map in
-    c.eq-in-Map-Map.ensures
-    ∙ lists_ties (λ p q. pair_cmp (pair_of p) (pair_of q)) (λ x y. both_tied _ _ (atom_cmp (atom_of x.0) (atom_of y.0)) (atom_cmp (atom_of x.1) (atom_of y.1)) refl refl) here.left.now here.right.now
-    ∙ ap is_eq (value_cmp-map_in here.left.now here.right.now _ _ here.ensures.in_order here.ensures'.in_order here.ensures.value here.ensures'.value)
+pub returns-in-One-One-clause-same : goal.returns-in-One-One-clause-same
+returns-in-One-One-clause-same c =
+    let here = c.in-One-One in
+    c.eq.ensures ∙ one_ties here.left here.right _ _ (ap content_of (sym here.is-0) ∙ c.self.view_is) (ap content_of (sym here.is-1) ∙ c.other.view_is)
     ∙ eq_by_cmp-value_cmp c.args.self.now c.args.other.now

@@ -1,4 +1,4 @@
-use Rattle.std.proofs.Common.{rules, ◌≡◌, true, sym, subst, ◌∙◌}
+use Rattle.std.proofs.Common.{rules, ◌≡◌, true, subst, ◌∙◌}
 use Rattle.std.specs.List.{list_any}
 use Rattle.odb_atoms.proofs.Lists.{any-map}
 use Rattle.odb_cond.specs.Filter.{member_holds}

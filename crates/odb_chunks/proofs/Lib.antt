@@ -1,0 +1,3 @@
+pub mod Chunked
+pub mod Parts
+pub mod Lasts
