@@ -132,8 +132,8 @@ fn write_on(outbox: &mut Outbox, taken: &mut Taken, stop: WriterStop) -> Option<
 
 /// Returns whether this is the whole, and the request after it where the peer was probed.
 fn is_all(text: &Vec<u8>, whole: &[u8], probed: bool) -> bool {
-    let behind = if probed { PROBE } else { "" };
-    text.get(..whole.len()) == Some(whole) && text.get(whole.len()..) == Some(behind.as_bytes())
+    let after = if probed { PROBE } else { "" };
+    text.get(..whole.len()) == Some(whole) && text.get(whole.len()..) == Some(after.as_bytes())
 }
 
 fn ask<L: Ledger, R: Threads + Wait + Clock + Sync>(
